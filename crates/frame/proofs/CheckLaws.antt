@@ -1,0 +1,79 @@
+-- Judging a frame: the flat laws of the code's returns, and what a caller learns from number 0.
+use Prim.Native.Nat.{ℕ, _+_, _-_, _<_, _≤_}
+use mathlib.Core.Bool.{Bool, true, false, cond}
+use mathlib.Core.List.{List}
+use mathlib.Core.Path.{_≡_, refl, sym, ap, _∙_}
+use native.Mathlib.Omega.{arith}
+use lib.Dec.{leb, ltb, eqb}
+use lib.ListN.{length, getD, take}
+use borrow.Author.Tests.{lt-ltb, le-ltb, le-leb, lt-leb, eq-eqb, ne-eqb, leb-true, ltb-true, eqb-true}
+use Rattle.octets.proofs.Tests.{and-left, and-right}
+use Rattle.octets.proofs.CallLaws.{place-is, kept-by}
+use Rattle.octets.specs.Sum.{checksumOf}
+use Rattle.octets.specs.declared.Place.{Place}
+use Rattle.frame.specs.Frame.{isStart, knownFormat, countRight, startRight, addressed, checksumRight, judged, dataPlace}
+use Rattle.frame.specs.declared.End.{End}
+use Rattle.frame.specs.declared.End.the-variants as ends
+use Rattle.frame.specs.declared.Addresses.{Addresses}
+
+pub start-at-unit : (end : End) (s : List ℕ) (r : Bool) → end ≡ ends.Unit → r ≡ eqb (getD s 3 0) 0x81 → r ≡ startRight end s
+unfolding startRight
+start-at-unit end s r e q = rw e q
+
+pub start-at-tool : (end : End) (s : List ℕ) → end ≡ ends.Tool → false ≡ startRight end s
+unfolding startRight
+start-at-tool end s e = rw e
+
+-- Everything that number 0 says
+pub record Good (a : Addresses) (end : End) (s : List ℕ) : Type 0 where
+  pub five : 5 ≤ length s
+  pub format : knownFormat (getD s 0 0) ≡ true
+  pub count : countRight s ≡ true
+  pub address : addressed a end s ≡ true
+  pub sum : checksumRight s ≡ true
+
+good-tests : (f k z m c : Bool) → _≡_ {A = ℕ} (cond f (cond k (cond z (cond m (cond c 0 3) 2) 1) 2) 1) 0 → (f ≡ true) × (k ≡ true) × (z ≡ true) × (m ≡ true) × (c ≡ true)
+good-tests true true true true true e = (refl, refl, refl, refl, refl)
+good-tests true true true true false e = absurd (omega arith)
+good-tests true true true false c e = absurd (omega arith)
+good-tests true true false m c e = absurd (omega arith)
+good-tests true false z m c e = absurd (omega arith)
+good-tests false k z m c e = absurd (omega arith)
+
+pub good : (a : Addresses) (end : End) (s : List ℕ) → judged a end s ≡ 0 → Good a end s
+unfolding judged
+good a end s e =
+    let t = good-tests (leb 5 (length s)) (knownFormat (getD s 0 0)) (countRight s) (addressed a end s) (checksumRight s) e in
+    record { five = leb-true 5 (length s) (t .0); format = t .1; count = t .2; address = t .3; sum = t .4 }
+
+-- a good frame carries the checksum of the bytes before it
+pub good-sum : (a : Addresses) (end : End) (s : List ℕ) → judged a end s ≡ 0 → checksumOf (take (length s - 1) s) ≡ getD s (length s - 1) 0
+unfolding checksumRight
+good-sum a end s e = eqb-true _ _ (good a end s e .sum)
+
+-- its length is LEN + 5, or 5 in the form without LEN
+pub count-start : (s : List ℕ) → countRight s ≡ true → isStart s ≡ true → length s ≡ 5
+unfolding countRight
+count-start s c e = eqb-true _ _ (rw e at c)
+
+pub count-general : (s : List ℕ) → countRight s ≡ true → isStart s ≡ false → length s ≡ getD s 3 0 + 5
+unfolding countRight
+count-general s c e = eqb-true _ _ (and-right (ltb 0 (getD s 3 0)) _ (rw e at c))
+
+-- Where the data lies, from the tests of the code: r is the number that `check` gave, first and third the bytes read
+module _ (a : Addresses) (end : End) (s : List ℕ) (r : ℕ) (e : r ≡ judged a end s) where
+  pub place-refused : (r ≡ 0 → ⊥) → _≡_ {A = Place} (record { number = r; start = 0; len = 0 }) (dataPlace a end s)
+  unfolding dataPlace
+  place-refused n = place-is r 0 0 _ _ _ e (kept-by r _ _ 0 e n) (kept-by r _ _ 0 e n)
+
+  pub place-start : (first : ℕ) → r ≡ 0 → first ≡ getD s 0 0 → first ≡ 0x81 → _≡_ {A = Place} (record { number = 0; start = 3; len = 1 }) (dataPlace a end s)
+  unfolding dataPlace
+  place-start first z f h =
+      let t : isStart s ≡ true = eq-eqb _ _ (sym f ∙ h) in
+      rw (← e, z, t)
+
+  pub place-general : (first third n : ℕ) → r ≡ 0 → first ≡ getD s 0 0 → (first ≡ 0x81 → ⊥) → third ≡ getD s 3 0 → n ≡ third → _≡_ {A = Place} (record { number = 0; start = 4; len = n }) (dataPlace a end s)
+  unfolding dataPlace
+  place-general first third n z f h t m =
+      let g : isStart s ≡ false = ne-eqb _ _ (λ q. h (f ∙ q)) in
+      rw (← e, z, g, m, t)

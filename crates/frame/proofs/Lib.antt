@@ -1,0 +1,4 @@
+-- Laws of frames, for this crate's proofs and for the crates above it.
+pub mod WriteLaws
+pub mod CheckLaws
+pub mod Theorems

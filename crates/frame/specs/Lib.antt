@@ -1,0 +1,3 @@
+-- Document 01, Frames.
+pub mod Frame
+pub mod Messages

@@ -1,0 +1,60 @@
+-- The fixed messages of document 01's table (The unit).
+use Prim.Native.Nat.{ℕ}
+use mathlib.Core.List.{List, [], _∷_}
+use lib.ListN.{length}
+use lib.Dec.{leb}
+use Rattle.octets.specs.Order.{unless}
+use Rattle.octets.specs.Numbers.{done, bufferShort, changedBy, writtenBy}
+use Rattle.octets.specs.Buffer.{front}
+use Rattle.octets.specs.declared.Written.{Written}
+use Rattle.frame.specs.declared.Addresses.{Addresses}
+use Rattle.frame.specs.Frame.{closed}
+
+-- "the five bytes 81 EE F0 81 E0, start communication, without LEN"
+abbrev pub startFrame : Addresses → List ℕ
+startFrame a = closed (0x81 ∷ a .unit ∷ a .tool ∷ 0x81 ∷ [])
+
+abbrev pub startNumber : ℕ → ℕ
+startNumber room = unless (leb 5 room) bufferShort done
+
+abbrev pub startResult : ℕ → Written
+startResult room = writtenBy (startNumber room) 5
+
+abbrev pub startOut : Addresses → List ℕ → List ℕ
+startOut a out = changedBy (startNumber (length out)) (front (startFrame a) out) out
+
+-- the data of the other fixed requests
+
+-- "10 81"
+abbrev pub sessionRequest : List ℕ
+sessionRequest = 0x10 ∷ 0x81 ∷ []
+
+-- "35, five 00, four FF"
+abbrev pub uploadRequest : List ℕ
+uploadRequest = 0x35 ∷ 0x00 ∷ 0x00 ∷ 0x00 ∷ 0x00 ∷ 0x00 ∷ 0xFF ∷ 0xFF ∷ 0xFF ∷ 0xFF ∷ []
+
+abbrev pub exitRequest : List ℕ
+exitRequest = 0x37 ∷ []
+
+abbrev pub stopRequest : List ℕ
+stopRequest = 0x82 ∷ []
+
+-- the data of the fixed replies
+
+abbrev pub startReply : List ℕ
+startReply = 0xC1 ∷ 0xEA ∷ 0x8F ∷ []
+
+abbrev pub sessionReply : List ℕ
+sessionReply = 0x50 ∷ 0x81 ∷ []
+
+abbrev pub rateReply : List ℕ
+rateReply = 0xC7 ∷ 0x01 ∷ []
+
+abbrev pub uploadReply : List ℕ
+uploadReply = 0x75 ∷ 0x00 ∷ 0xFF ∷ []
+
+abbrev pub exitReply : List ℕ
+exitReply = 0x77 ∷ []
+
+abbrev pub stopReply : List ℕ
+stopReply = 0xC2 ∷ []

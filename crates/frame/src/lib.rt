@@ -1,0 +1,22 @@
+// Frames of the download protocol (document 01, Frames; DDP_002): judging, reading and writing them.
+pub mod check;
+pub mod messages;
+pub mod write;
+
+// The two ends of the line.
+pub enum End {
+    Unit,
+    Tool,
+}
+
+// The addresses of both ends. Definitions and private functions are over any two, public calls at the lab's.
+pub struct Addresses {
+    pub unit: u8,
+    pub tool: u8,
+}
+
+// Unit address EE, tool address F0.
+pub const LAB: Addresses = Addresses {
+    unit: 0xEE,
+    tool: 0xF0,
+};

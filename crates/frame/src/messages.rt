@@ -1,0 +1,47 @@
+// The fixed messages of the protocol as byte strings: requests that the tool writes and the unit compares, replies the other way round.
+use octets::Written;
+use octets::numbers::BUFFER_SHORT;
+ghost use mathlib.Core.Path.{_≡_};
+ghost use lib.ListN.{length};
+ghost use Rattle.frame.specs.Frame.{lab};
+ghost use Rattle.frame.specs.Messages.{startResult, startOut};
+
+// Start communication: the whole frame, the one without LEN.
+pub const START: [u8; 5] = *b"\x81\xee\xf0\x81\xe0";
+
+// The data of the other fixed requests.
+pub const SESSION: [u8; 2] = *b"\x10\x81";
+
+pub const UPLOAD: [u8; 10] = *b"\x35\x00\x00\x00\x00\x00\xff\xff\xff\xff";
+
+pub const EXIT: [u8; 1] = *b"\x37";
+
+pub const STOP: [u8; 1] = *b"\x82";
+
+// The data of the fixed replies.
+pub const STARTED: [u8; 3] = *b"\xc1\xea\x8f";
+
+pub const SESSION_OPENED: [u8; 2] = *b"\x50\x81";
+
+pub const RATE_OFFERED: [u8; 2] = *b"\xc7\x01";
+
+pub const UPLOAD_GRANTED: [u8; 3] = *b"\x75\x00\xff";
+
+pub const EXITED: [u8; 1] = *b"\x77";
+
+pub const STOPPED: [u8; 1] = *b"\xc2";
+
+// Writes the five-byte start frame at the front of `out`; 4 where it is shorter.
+pub fn write_start(out: &mut [u8]) -> Written
+    ensures { λ r. ⌜ r ≡ startResult (length (now (out .entry))) ⌝ }
+    ensures { λ _. ⌜ now (out .exit) ≡ startOut lab (now (out .entry)) ⌝ }
+{
+    if out.len() < 5 {
+        return Written {
+            number: BUFFER_SHORT,
+            len: 0,
+        };
+    }
+    octets::buffer::copy_in(out, &START);
+    Written { number: 0, len: 5 }
+}

@@ -1,0 +1,6 @@
+-- Laws that the proofs of this crate and of the crates above it cite.
+pub mod Tests
+pub mod SumLaws
+pub mod BufferLaws
+pub mod NumberLaws
+pub mod CallLaws

@@ -1,0 +1,25 @@
+// Bytes: checksum, big-endian numbers, parts of slices, copying and shifting in lent buffers.
+// Also the house numbers of document 01 and the results that carry them.
+pub mod big_endian;
+pub mod buffer;
+pub mod numbers;
+pub mod sum;
+
+// What a call that writes hands back: number 0 and the bytes at the front of the lent buffer, or a refusal and 0.
+pub struct Written {
+    pub number: u8,
+    pub len: usize,
+}
+
+// Where a part lies in the bytes handed in: number 0 and its place, or a refusal and an empty part.
+pub struct Place {
+    pub number: u8,
+    pub start: usize,
+    pub len: usize,
+}
+
+// A count, or a refusal and 0.
+pub struct Counted {
+    pub number: u8,
+    pub count: usize,
+}
