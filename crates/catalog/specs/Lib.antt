@@ -1,0 +1,3 @@
+-- Document 01, Transfer types.
+pub mod Table
+pub mod Name

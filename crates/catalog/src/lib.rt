@@ -1,0 +1,153 @@
+// Transfer types by kind of unit (document 01, Transfer types; DDP_011), and the names of answers.
+use octets::numbers::NOT_IN_TABLE;
+ghost use mathlib.Core.Path.{_≡_};
+ghost use Rattle.catalog.specs.Table.{trtpOf, knownTo, listed, isActivities};
+ghost use Rattle.catalog.specs.Name.{dayNamed, firstSecond, sameAnswer, nameNumber};
+
+// The kinds of unit.
+pub const GENERATION_1: u8 = 0;
+
+pub const GENERATION_2_VERSION_1: u8 = 1;
+
+pub const GENERATION_2_VERSION_2: u8 = 2;
+
+pub const KINDS: u8 = 3;
+
+// The transfer types, in the order of the table.
+pub const INTERFACE_VERSION: u8 = 0;
+
+pub const OVERVIEW: u8 = 1;
+
+pub const ACTIVITIES: u8 = 2;
+
+pub const EVENTS_AND_FAULTS: u8 = 3;
+
+pub const DETAILED_SPEED: u8 = 4;
+
+pub const TECHNICAL_DATA: u8 = 5;
+
+pub const TRANSFER_TYPES: u8 = 6;
+
+// Where a kind has no such transfer type. FF is no TRTP, so an absent entry never looks present.
+pub const ABSENT: u8 = 0xFF;
+
+// TRTP by transfer type (rows) and kind (columns), as document 01 prints it.
+const TRTP: [u8; 18] = [
+    0xFF,
+    0xFF,
+    0x00,
+    0x01,
+    0x21,
+    0x31,
+    0x02,
+    0x22,
+    0x32,
+    0x03,
+    0x23,
+    0x33,
+    0x04,
+    0x24,
+    0x24,
+    0x05,
+    0x25,
+    0x35,
+];
+
+// An answer's name: which data, and for activities which day.
+pub struct AnswerName {
+    pub trep: u8,
+    pub day: u32,
+}
+
+// The TRTP of the transfer type in this row at a kind, FF where there is none.
+pub fn trtp(row: u8, kind: u8) -> u8
+    ensures { λ r. ⌜ r ≡ trtpOf row kind ⌝ }
+{
+    if kind >= 3 {
+        return ABSENT;
+    }
+    if row >= 6 {
+        return ABSENT;
+    }
+    let i = (row as usize) * 3 + (kind as usize);
+    TRTP[i]
+}
+
+// Whether a unit of this kind knows the TRTP.
+pub fn known_to(kind: u8, byte: u8) -> bool
+    ensures { λ r. ⌜ r ≡ knownTo kind byte ⌝ }
+{
+    if byte == ABSENT {
+        return false;
+    }
+    let mut row: u8 = 0;
+    while row < 6 {
+        if trtp(row, kind) == byte {
+            return true;
+        }
+        row += 1;
+    }
+    false
+}
+
+// Whether any kind knows the TRTP.
+pub fn is_listed(byte: u8) -> bool
+    ensures { λ r. ⌜ r ≡ listed byte ⌝ }
+{
+    if known_to(GENERATION_1, byte) {
+        return true;
+    }
+    if known_to(GENERATION_2_VERSION_1, byte) {
+        return true;
+    }
+    known_to(GENERATION_2_VERSION_2, byte)
+}
+
+// Whether it is a TRTP of activities, which carry a day.
+pub fn is_activities(byte: u8) -> bool
+    ensures { λ r. ⌜ r ≡ isActivities byte ⌝ }
+{
+    if byte == ABSENT {
+        return false;
+    }
+    (trtp(ACTIVITIES, 0) == byte) | (trtp(ACTIVITIES, 1) == byte) | (trtp(ACTIVITIES, 2) == byte)
+}
+
+// The first second of the day that a second falls in.
+pub fn first_second(second: u32) -> u32
+    ensures { λ r. ⌜ r ≡ firstSecond second ⌝ }
+{
+    second - second % 86400
+}
+
+// Whether this day may be named beside the TREP.
+pub fn day_named(name: AnswerName) -> bool
+    ensures { λ r. ⌜ r ≡ dayNamed name ⌝ }
+{
+    let day = name.day;
+    if is_activities(name.trep) {
+        first_second(day) == day
+    } else {
+        day == 0
+    }
+}
+
+// Whether two names mean the same answer.
+pub fn same_answer(a: AnswerName, b: AnswerName) -> bool
+    ensures { λ r. ⌜ r ≡ sameAnswer a b ⌝ }
+{
+    (a.trep == b.trep) & (a.day == b.day)
+}
+
+// Number 12's rule for a name: 0 where it is allowed.
+pub fn name_number(name: AnswerName) -> u8
+    ensures { λ r. ⌜ r ≡ nameNumber name ⌝ }
+{
+    if !is_listed(name.trep) {
+        return NOT_IN_TABLE;
+    }
+    if !day_named(name) {
+        return NOT_IN_TABLE;
+    }
+    0
+}
