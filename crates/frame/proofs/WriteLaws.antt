@@ -83,8 +83,9 @@ module _ (a : Addresses) (end : End) (p r o o₁ o₂ o₃ o₄ : List ℕ) (t s
 
 -- the five-byte start: the string that is copied, and a buffer that is too short for it
 pub start-short : (o : List ℕ) → length o < 5 → (_≡_ {A = Written} (record { number = 4; len = 0 }) (startResult (length o))) × (o ≡ startOut lab o)
+unfolding startResult startOut
 start-short o h = rw (lt-leb 5 (length o) h) (refl, refl)
 
 pub start-written : (o o′ : List ℕ) → 5 ≤ length o → o′ ≡ copied (0x81 ∷ 0xEE ∷ 0xF0 ∷ 0x81 ∷ 0xE0 ∷ []) o → (_≡_ {A = Written} (record { number = 0; len = 5 }) (startResult (length o))) × (o′ ≡ startOut lab o)
-unfolding closed
+unfolding closed startResult startOut
 start-written o o′ h e = rw (le-leb 5 (length o) h) (refl, e ∙ copied-fits _ o (omega arith))

@@ -44,10 +44,10 @@ writeNumber n room =
     (unless (leb (n + 5) room) bufferShort
     done)
 
-abbrev pub writeResult : List ℕ → ℕ → Written
+unfoldable pub writeResult : List ℕ → ℕ → Written
 writeResult d room = writtenBy (writeNumber (length d) room) (length d + 5)
 
-abbrev pub writeOut : Addresses → End → List ℕ → List ℕ → List ℕ
+unfoldable pub writeOut : Addresses → End → List ℕ → List ℕ → List ℕ
 writeOut a end d out = changedBy (writeNumber (length d) (length out)) (front (frameOf a end d) out) out
 
 -- Judging: "A frame is judged in this order"

@@ -17,10 +17,10 @@ startFrame a = closed (0x81 ∷ a .unit ∷ a .tool ∷ 0x81 ∷ [])
 abbrev pub startNumber : ℕ → ℕ
 startNumber room = unless (leb 5 room) bufferShort done
 
-abbrev pub startResult : ℕ → Written
+unfoldable pub startResult : ℕ → Written
 startResult room = writtenBy (startNumber room) 5
 
-abbrev pub startOut : Addresses → List ℕ → List ℕ
+unfoldable pub startOut : Addresses → List ℕ → List ℕ
 startOut a out = changedBy (startNumber (length out)) (front (startFrame a) out) out
 
 -- the data of the other fixed requests

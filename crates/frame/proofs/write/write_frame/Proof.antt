@@ -1,5 +1,6 @@
 -- The refusals in order; then header, both parts and checksum, one behind the other.
 use Rattle.octets.proofs.CallLaws.{written-is}
+use Rattle.frame.specs.Frame.{writeResult, writeOut}
 use Rattle.frame.proofs.WriteLaws.{number-empty, number-long, number-short, number-good, kept-empty, kept-long, kept-short, length-good, framed}
 use borrow.Author.Needs.{needs}
 use Rattle.frame.proofs.write.write_frame.Statement.{statement}
@@ -8,4 +9,5 @@ use Rattle.frame.proofs.write.write_frame.Tie as tie
 ruleset all = (needs, written-is, number-empty, number-long, number-short, number-good, kept-empty, kept-long, kept-short, length-good, framed)
 
 pub write-frame-spec : {M : Type 1} → statement M
+unfolding writeResult writeOut
 write-frame-spec = tie.close (tie.spec (λ c. search all) (λ c. search all) (λ c. search all) (λ c. search all) (λ c. search all) (λ c κs. search all) (λ c κs. search all) (λ c. search all) (λ c κs. search all) (λ c κs. search all) (λ c. search all) (λ c κs. search all) (λ c. search all) (λ c κs. search all) (λ c. search all) (λ c. search all) (λ c. search all))

@@ -1,0 +1,4 @@
+pub mod Line
+pub mod Book
+pub mod Premises
+pub mod Claims

@@ -1,0 +1,4 @@
+-- Laws of splitting and joining.
+pub mod SplitLaws
+pub mod JoinLaws
+pub mod Theorems

@@ -1,0 +1,1 @@
+-- Splitting and joining, for every answer up to the bound.

@@ -1,0 +1,4 @@
+-- Document 01, Splitting.
+pub mod Split
+pub mod Codes
+pub mod Join

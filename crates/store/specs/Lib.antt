@@ -1,0 +1,5 @@
+-- Document 01, Bench store (house) and stream (DDP_034).
+pub mod Layout
+pub mod Check
+pub mod Read
+pub mod Append

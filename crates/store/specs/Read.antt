@@ -1,0 +1,55 @@
+-- Lookup, the stream, and the answers one by one.
+use Prim.Native.Nat.{ℕ, zero, suc, _+_}
+use mathlib.Core.Bool.{cond}
+use mathlib.Core.List.{List}
+use lib.Dec.{ltb}
+use Rattle.octets.specs.Order.{unless, orElse}
+use Rattle.octets.specs.Numbers.{done, notHeld, changedBy, placeBy}
+use Rattle.octets.specs.Buffer.{partAt}
+use Rattle.octets.specs.declared.Place.{Place}
+use Rattle.catalog.specs.Name.{sameAnswer}
+use Rattle.catalog.specs.declared.AnswerName.{AnswerName}
+use Rattle.store.specs.declared.HeldAnswer.{HeldAnswer}
+use Rattle.store.specs.Layout.{Form, answers, streamStart, streamLength, entryLength, answerStart, nameAt}
+use Rattle.store.specs.Check.{storeNumber}
+
+module _ (f : Form) where
+  -- the first of k entries from the i-th on with that name; past them all where there is none
+  unfoldable pub positionFrom : ℕ → ℕ → AnswerName → List ℕ → ℕ
+  positionFrom zero i name s = i
+  positionFrom (suc k) i name s = cond (sameAnswer (nameAt f i s) name) i (positionFrom k (i + 1) name s)
+
+  abbrev pub position : AnswerName → List ℕ → ℕ
+  position name s = positionFrom (answers f s) 0 name s
+
+  -- "Lookup: 5, 6 (unlisted names too)"
+  unfoldable pub lookupNumber : AnswerName → List ℕ → ℕ
+  lookupNumber name s = orElse (storeNumber f s) (unless (ltb (position name s) (answers f s)) notHeld done)
+
+  -- "A lookup hands back the answer as part of the buffer, or 6"
+  unfoldable pub lookupPlace : AnswerName → List ℕ → Place
+  lookupPlace name s =
+      placeBy (lookupNumber name s) (answerStart f (position name s) s) (entryLength f (position name s) s)
+
+  unfoldable pub lookupPart : AnswerName → List ℕ → List ℕ
+  lookupPart name s = partAt (lookupPlace name s .start) (lookupPlace name s .len) s
+
+  -- the stream (DDP_034): 5 where the store is broken
+  unfoldable pub streamPlace : List ℕ → Place
+  streamPlace s = placeBy (storeNumber f s) (streamStart f s) (streamLength f s)
+
+  unfoldable pub streamPart : List ℕ → List ℕ
+  streamPart s = partAt (streamPlace s .start) (streamPlace s .len) s
+
+  -- the i-th answer: 5, then 6 where the store has no more answers
+  unfoldable pub heldNumber : ℕ → List ℕ → ℕ
+  heldNumber i s = orElse (storeNumber f s) (unless (ltb i (answers f s)) notHeld done)
+
+  unfoldable pub heldAnswer : ℕ → List ℕ → HeldAnswer
+  heldAnswer i s =
+      record {
+        number = heldNumber i s;
+        name = changedBy (heldNumber i s) (nameAt f i s) (record { trep = 0; day = 0 });
+        start = changedBy (heldNumber i s) (answerStart f i s) 0;
+        len = changedBy (heldNumber i s) (entryLength f i s) 0;
+      }
