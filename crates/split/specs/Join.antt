@@ -1,11 +1,15 @@
 -- Joining sub messages (document 01, The tool, "Transfer"): what the data of a good frame is with number e expected.
-use Prim.Native.Nat.{ℕ, _+_}
+use Prim.Native.Nat.{ℕ, zero, suc, _+_}
 use mathlib.Core.Bool.{Bool, cond, _&&_}
-use mathlib.Core.List.{List, [], _∷_, _++_}
+use mathlib.Core.List.{List, [], _∷_, _++_, map}
 use lib.ListN.{length, getD, drop}
 use lib.Dec.{eqb, ltb, leb}
 use Rattle.octets.specs.Order.{unless}
 use Rattle.octets.specs.BigEndian.{numberAt}
+use Rattle.frame.specs.declared.Addresses.{Addresses}
+use Rattle.frame.specs.declared.End.the-variants as ends
+use Rattle.frame.specs.Frame.{dataOf}
+use Rattle.split.specs.Split.{countOf, subFrame}
 use Rattle.split.specs.declared.Received.{Received}
 use Rattle.split.specs.declared.Received.the-variants.{Whole, Full, Last, Above, Other}
 
@@ -58,3 +62,15 @@ unfoldable pub joined : ℕ → ℕ → List ℕ → List (List ℕ) → Joined
 joined trep e held [] = waiting e held
 joined trep e held (f ∷ fs) =
     joinedBy (receivedAs trep e f) held f (joined trep (e + 1) (held ++ carriedBy Full f) fs) (joined trep e held fs)
+
+-- an answer's frames, from the unit to the tool: m of them from number k on, and all of them
+unfoldable pub framesFrom : Addresses → ℕ → List ℕ → ℕ → ℕ → List (List ℕ)
+framesFrom a trep d zero k = []
+framesFrom a trep d (suc m) k = subFrame a trep k d ∷ framesFrom a trep d m (k + 1)
+
+abbrev pub framesOf : Addresses → ℕ → List ℕ → List (List ℕ)
+framesOf a trep d = framesFrom a trep d (countOf (length d)) 1
+
+-- what the tool makes of the frames of an answer, each read by the frame rules
+abbrev pub joinedFrames : Addresses → ℕ → List (List ℕ) → Joined
+joinedFrames a trep frames = joined trep 1 [] (map (dataOf a ends.Tool) frames)
