@@ -1,0 +1,3 @@
+-- Document 01, Record arrays.
+pub mod Arrays
+pub mod Written

@@ -1,0 +1,122 @@
+-- What an event means to a waiting tool, and what follows from it.
+use Prim.Native.Nat.{ℕ, _+_}
+use mathlib.Core.Bool.{Bool, cond, _&&_}
+use mathlib.Core.List.{List, [], _∷_}
+use lib.ListN.{length, getD, drop}
+use lib.Dec.{eqb, leb}
+use Rattle.octets.specs.Buffer.{sameBytes, put}
+use Rattle.frame.specs.declared.Addresses.{Addresses}
+use Rattle.frame.specs.declared.End.the-variants as ends
+use Rattle.frame.specs.Frame.{frameOf, judged, dataOf}
+use Rattle.split.specs.Codes.{sub, stopCode}
+use Rattle.split.specs.Join.{receivedAs}
+use Rattle.split.specs.declared.Received.{Received}
+use Rattle.split.specs.declared.Received.the-variants.{Whole, Full, Last, Above, Other}
+use Rattle.tool.specs.declared.Outcome.{Outcome}
+use Rattle.tool.specs.declared.Outcome.the-variants.{Waiting, Done, NoAnswer, NoRoom, Refused}
+use Rattle.tool.specs.declared.ToolState.{ToolState}
+use Rattle.tool.specs.declared.Meaning.{Meaning}
+use Rattle.tool.specs.declared.Meaning.the-variants.{Ignored, FailedWait, Confirmed, WholeAnswer, SubMessageTaken, LastTaken, NoRoomForAnswer, NoRoomForSubMessage, RefusedBy}
+use Rattle.tool.specs.State.{heldMost, isTransfer}
+use Rattle.tool.specs.Sent.{acknowledgement, frameSent, sidSent, replyWanted}
+
+-- "Held bytes are 76, TREP, data": what a frame's data d adds to them
+unfoldable pub newBytes : ToolState → Received → List ℕ → List ℕ
+newBytes t Whole d = d
+newBytes t Full d = cond (eqb (t .expected .0) 1) (0x76 ∷ t .name .trep ∷ drop 4 d) (drop 4 d)
+newBytes t Last d = cond (eqb (t .expected .0) 1) (0x76 ∷ t .name .trep ∷ drop 4 d) (drop 4 d)
+newBytes t Above d = []
+newBytes t Other d = []
+
+-- "If they would pass the room or 60,000"
+unfoldable pub fits : ℕ → ToolState → ℕ → Bool
+fits room t n = leb (t .held + n) room && leb (t .held + n) heldMost
+
+-- a frame's data in a transfer, by what it is of the answer and whether it fits
+unfoldable pub meaningOf : Received → Bool → Meaning
+meaningOf Whole room = cond room WholeAnswer NoRoomForAnswer
+meaningOf Full room = cond room SubMessageTaken NoRoomForSubMessage
+meaningOf Last room = cond room LastTaken NoRoomForSubMessage
+meaningOf Above room = FailedWait
+meaningOf Other room = Ignored
+
+abbrev pub receivedBy : ToolState → List ℕ → Received
+receivedBy t d = receivedAs (t .name .trep) (t .expected .0) d
+
+unfoldable pub transferMeaning : ℕ → ToolState → List ℕ → Meaning
+transferMeaning room t d = meaningOf (receivedBy t d) (fits room t (length (newBytes t (receivedBy t d) d)))
+
+-- "A three-byte 7F reply naming the SID last sent"
+unfoldable pub isRefusal : ToolState → List ℕ → Bool
+isRefusal t d =
+    eqb (length d) 3 && (eqb (getD d 0 0) 0x7F && eqb (getD d 1 0) (sidSent (t .request) (t .expected .0)))
+
+-- "code 78 starts the wait anew and sends nothing; another code ends the request with that code"
+unfoldable pub refusalMeaning : ℕ → Meaning
+refusalMeaning code = cond (eqb code 0x78) Ignored (RefusedBy code)
+
+-- the data of a good frame
+unfoldable pub dataMeaning : ℕ → ToolState → List ℕ → Meaning
+dataMeaning room t d =
+    cond (isRefusal t d) (refusalMeaning (getD d 2 0))
+    (cond (isTransfer (t .request)) (transferMeaning room t d)
+    (cond (sameBytes d (replyWanted (t .request))) Confirmed Ignored))
+
+-- a string that arrives: "At the tool a frame that fails the frame rules is an event, not a refusal"
+unfoldable pub arrivalMeaning : Addresses → ℕ → ToolState → List ℕ → Meaning
+arrivalMeaning a room t b = cond (eqb (judged a ends.Tool b) 0) (dataMeaning room t (dataOf a ends.Tool b)) FailedWait
+
+-- the bytes that it adds to the held ones
+unfoldable pub arrivalBytes : Addresses → ToolState → List ℕ → List ℕ
+arrivalBytes a t b = newBytes t (receivedBy t (dataOf a ends.Tool b)) (dataOf a ends.Tool b)
+
+-- What follows
+
+-- "An ended state keeps all as at its last wait but outcome and held length"
+abbrev pub ended : ToolState → Outcome → ℕ → ToolState
+ended t outcome held =
+    record { request = t .request; outcome = outcome; name = t .name; sendings = t .sendings; expected = t .expected; held = held }
+
+abbrev pub waits : ToolState → ℕ → ℕ → ℕ → ToolState
+waits t sendings e held =
+    record { request = t .request; outcome = Waiting; name = t .name; sendings = sendings; expected = sub e; held = held }
+
+-- "After a failed wait the same frame goes out again; after the third sending the request ends 'no answer' (DDP_027)"
+unfoldable pub afterFailedWait : ToolState → ToolState
+afterFailedWait t = cond (leb 3 (t .sendings)) (ended t NoAnswer (t .held)) (waits t (t .sendings + 1) (t .expected .0) (t .held))
+
+-- the next state; n new bytes
+unfoldable pub stateAfter : ToolState → Meaning → ℕ → ToolState
+stateAfter t Ignored n = t
+stateAfter t FailedWait n = afterFailedWait t
+stateAfter t Confirmed n = ended t Done (t .held)
+stateAfter t WholeAnswer n = ended t Done (t .held + n)
+stateAfter t SubMessageTaken n = waits t 1 (t .expected .0 + 1) (t .held + n)
+stateAfter t LastTaken n = ended t Done (t .held + n)
+stateAfter t NoRoomForAnswer n = ended t NoRoom (t .held)
+stateAfter t NoRoomForSubMessage n = ended t NoRoom (t .held)
+stateAfter t (RefusedBy code) n = ended t (Refused code) (t .held)
+
+-- the frame that goes out, none for none: "expect the next, send the acknowledgement with that number"; "for a sub message, code FFFF is sent"
+unfoldable pub sentAfter : Addresses → ToolState → Meaning → List ℕ
+sentAfter a t Ignored = []
+sentAfter a t FailedWait = cond (leb 3 (t .sendings)) [] (frameSent a (t .request) (t .name) (t .expected .0))
+sentAfter a t Confirmed = []
+sentAfter a t WholeAnswer = []
+sentAfter a t SubMessageTaken = frameSent a (t .request) (t .name) (t .expected .0 + 1)
+sentAfter a t LastTaken = []
+sentAfter a t NoRoomForAnswer = []
+sentAfter a t NoRoomForSubMessage = frameOf a ends.Unit (acknowledgement stopCode)
+sentAfter a t (RefusedBy code) = []
+
+-- "New bytes go into the lent room right behind those already held"; "'no room', the room unchanged"
+unfoldable pub roomAfter : ToolState → Meaning → List ℕ → List ℕ → List ℕ
+roomAfter t Ignored new room = room
+roomAfter t FailedWait new room = room
+roomAfter t Confirmed new room = room
+roomAfter t WholeAnswer new room = put (t .held) new room
+roomAfter t SubMessageTaken new room = put (t .held) new room
+roomAfter t LastTaken new room = put (t .held) new room
+roomAfter t NoRoomForAnswer new room = room
+roomAfter t NoRoomForSubMessage new room = room
+roomAfter t (RefusedBy code) new room = room

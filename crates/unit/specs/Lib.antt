@@ -1,0 +1,4 @@
+-- Document 01, The unit.
+pub mod State
+pub mod Services
+pub mod Call

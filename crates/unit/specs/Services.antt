@@ -1,0 +1,118 @@
+-- The services of document 01's table, row by row. Each takes the data of a good frame heard when not closed, d; its checks run in the order
+-- "at least its shortest length (13), sub function or TRTP known (12), exact length (13), values (31), phase (22), data held (FA)".
+use Prim.Native.Nat.{ℕ, _+_, _-_}
+use mathlib.Core.Bool.{Bool, cond, not, _&&_, _||_}
+use mathlib.Core.List.{List, _∷_}
+use lib.ListN.{length, getD}
+use lib.Dec.{eqb, leb}
+use Rattle.octets.specs.Order.{unless}
+use Rattle.octets.specs.Buffer.{sameBytes}
+use Rattle.octets.specs.BigEndian.{numberAt}
+use Rattle.octets.specs.declared.Place.{Place}
+use Rattle.frame.specs.Messages.{uploadRequest}
+use Rattle.catalog.specs.Table.{knownTo, isActivities}
+use Rattle.catalog.specs.Name.{dayNamed}
+use Rattle.catalog.specs.declared.AnswerName.{AnswerName}
+use Rattle.split.specs.Split.{countOf}
+use Rattle.split.specs.Codes.{sub, acknowledgeOf, repeatOf, stopCode}
+use Rattle.split.specs.declared.SubMessage.{SubMessage}
+use Rattle.store.specs.Layout.{narrow}
+use Rattle.store.specs.Read.{lookupPlace}
+use Rattle.unit.specs.declared.Phase.{Phase}
+use Rattle.unit.specs.declared.Phase.the-variants.{Closed, Started, Session, Granted, Sending}
+use Rattle.unit.specs.declared.Reaction.{Reaction}
+use Rattle.unit.specs.declared.Reaction.the-variants.{SessionOpened, RateOffered, RateChanged, UploadGranted, AnswerSent, AnswerStopped, TransferExited, CommunicationStopped, Negative}
+use Rattle.unit.specs.State.{inSession, isGranted}
+
+-- "10 81 | not closed | 50 81, session"
+unfoldable pub onSession : List ℕ → Reaction
+onSession d =
+    unless (leb 2 (length d)) (Negative 0x10 0x13)
+    (unless (eqb (getD d 1 0) 0x81) (Negative 0x10 0x12)
+    (unless (eqb (length d) 2) (Negative 0x10 0x13)
+    SessionOpened))
+
+-- "87 01 01 r, r 01 to 05 | session | C7 01, r pending"
+unfoldable pub onRateOffer : Phase → List ℕ → Reaction
+onRateOffer phase d =
+    unless (eqb (length d) 4) (Negative 0x87 0x13)
+    (unless (eqb (getD d 2 0) 0x01 && (leb 1 (getD d 3 0) && leb (getD d 3 0) 5)) (Negative 0x87 0x31)
+    (unless (inSession phase) (Negative 0x87 0x22)
+    (RateOffered (getD d 3 0))))
+
+-- "87 02 03 | session, r pending | silence, rate r"
+unfoldable pub onRateChange : Phase → ℕ → List ℕ → Reaction
+onRateChange phase pending d =
+    unless (eqb (length d) 3) (Negative 0x87 0x13)
+    (unless (eqb (getD d 2 0) 0x03) (Negative 0x87 0x31)
+    (unless (inSession phase && not (eqb pending 0)) (Negative 0x87 0x22)
+    RateChanged))
+
+-- link control: the second byte is the sub function
+unfoldable pub onLinkControl : Phase → ℕ → List ℕ → Reaction
+onLinkControl phase pending d =
+    unless (leb 3 (length d)) (Negative 0x87 0x13)
+    (cond (eqb (getD d 1 0) 0x01) (onRateOffer phase d)
+    (cond (eqb (getD d 1 0) 0x02) (onRateChange phase pending d)
+    (Negative 0x87 0x12)))
+
+-- "35, five 00, four FF | session, granted, sending | 75 00 FF, granted"
+unfoldable pub onUpload : Phase → List ℕ → Reaction
+onUpload phase d =
+    unless (eqb (length d) 10) (Negative 0x35 0x13)
+    (unless (sameBytes d uploadRequest) (Negative 0x35 0x31)
+    (unless (inSession phase || isGranted phase) (Negative 0x35 0x22)
+    UploadGranted))
+
+-- the answer that 36 names: "36 TRTP (day)"
+unfoldable pub requestName : List ℕ → AnswerName
+requestName d =
+    record { trep = getD d 1 0; day = cond (isActivities (getD d 1 0)) (numberAt 4 2 d) 0 }
+
+-- "granted, sending | unsplit answer, granted; or sub message 1, sending"; "data held (FA)"
+unfoldable pub answerFrom : AnswerName → SubMessage → Place → Reaction
+answerFrom name k place = unless (eqb (place .number) 0) (Negative 0x36 0xFA) (AnswerSent name k place)
+
+-- "In 36 a day that is no multiple of 86,400 is 31"
+unfoldable pub onTransfer : ℕ → Phase → List ℕ → List ℕ → Reaction
+onTransfer kind phase store d =
+    unless (leb 2 (length d)) (Negative 0x36 0x13)
+    (unless (knownTo kind (getD d 1 0)) (Negative 0x36 0x12)
+    (unless (eqb (length d) (cond (isActivities (getD d 1 0)) 6 2)) (Negative 0x36 0x13)
+    (unless (dayNamed (requestName d)) (Negative 0x36 0x31)
+    (unless (isGranted phase) (Negative 0x36 0x22)
+    (answerFrom (requestName d) (sub 1) (lookupPlace narrow (requestName d) store))))))
+
+-- "37 | granted, sending | 77, session"
+unfoldable pub onExit : Phase → List ℕ → Reaction
+onExit phase d =
+    unless (eqb (length d) 1) (Negative 0x37 0x13)
+    (unless (isGranted phase) (Negative 0x37 0x22)
+    TransferExited)
+
+-- "82 | not closed | C2, closed, rate 1"
+unfoldable pub onStop : List ℕ → Reaction
+onStop d = unless (eqb (length d) 1) (Negative 0x82 0x13) CommunicationStopped
+
+-- "Code (DDP_017): last sent, send it again; last sent plus 1, send the next, or 12 if there is none; FFFF, silence, granted; any other, 22"
+unfoldable pub onCode : AnswerName → SubMessage → Place → ℕ → Reaction
+onCode name last place c =
+    cond (eqb c (repeatOf last .0)) (AnswerSent name last place)
+    (cond (eqb c (acknowledgeOf last .0))
+    (unless (leb (last .0 + 1) (countOf (place .len - 2))) (Negative 0x83 0x12) (AnswerSent name (sub (last .0 + 1)) place))
+    (cond (eqb c (stopCode .0)) AnswerStopped (Negative 0x83 0x22)))
+
+-- only an answer that is being sent can be acknowledged
+unfoldable pub onSending : Phase → List ℕ → ℕ → Reaction
+onSending Closed store c = Negative 0x83 0x22
+onSending Started store c = Negative 0x83 0x22
+onSending Session store c = Negative 0x83 0x22
+onSending Granted store c = Negative 0x83 0x22
+onSending (Sending name last) store c = onCode name last (lookupPlace narrow name store) c
+
+-- "83 76 and a code | sending"; "In 83 a second byte other than 76 is 31"
+unfoldable pub onAcknowledge : Phase → List ℕ → List ℕ → Reaction
+onAcknowledge phase store d =
+    unless (eqb (length d) 4) (Negative 0x83 0x13)
+    (unless (eqb (getD d 1 0) 0x76) (Negative 0x83 0x31)
+    (onSending phase store (numberAt 2 2 d)))
