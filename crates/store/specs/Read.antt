@@ -22,9 +22,17 @@ module _ (f : Form) where
   abbrev pub position : AnswerName → List ℕ → ℕ
   position name s = positionFrom (answers f s) 0 name s
 
+  -- finding an answer in a store that was checked: 6 where it is not held
+  abbrev pub findNumber : AnswerName → List ℕ → ℕ
+  findNumber name s = unless (ltb (position name s) (answers f s)) notHeld done
+
+  unfoldable pub findPlace : AnswerName → List ℕ → Place
+  findPlace name s =
+      placeBy (findNumber name s) (answerStart f (position name s) s) (entryLength f (position name s) s)
+
   -- "Lookup: 5, 6 (unlisted names too)"
   unfoldable pub lookupNumber : AnswerName → List ℕ → ℕ
-  lookupNumber name s = orElse (storeNumber f s) (unless (ltb (position name s) (answers f s)) notHeld done)
+  lookupNumber name s = orElse (storeNumber f s) (findNumber name s)
 
   -- "A lookup hands back the answer as part of the buffer, or 6"
   unfoldable pub lookupPlace : AnswerName → List ℕ → Place

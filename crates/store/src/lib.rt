@@ -1,5 +1,15 @@
 // The bench store (document 01, Bench store and stream; DDP_034): checking, reading and appending.
+pub mod append;
+pub mod check;
+mod layout;
+pub mod read;
+
 use catalog::AnswerName;
+
+// The most answers that a store holds, and the most bytes of its stream.
+pub const ANSWERS_MOST: usize = 64;
+
+pub const STREAM_MOST: usize = 60000;
 
 // The k-th answer that a store holds: its name and its place in the buffer, or a refusal and zeros.
 pub struct HeldAnswer {

@@ -1,0 +1,13 @@
+-- Refused by the number, or the new store in front.
+use Rattle.octets.proofs.CallLaws.{written-is, kept-by, changed-by, zero-by}
+use Rattle.store.specs.Append.{appendResult, appendOut}
+use Rattle.store.proofs.AppendLaws.{accepted-count, accepted-stream, accepted-room, accepted-length}
+use borrow.Author.Needs.{needs}
+use Rattle.store.proofs.append.append.Statement.{statement}
+use Rattle.store.proofs.append.append.Tie as tie
+
+ruleset all = (needs, written-is, kept-by, changed-by, zero-by, accepted-count, accepted-stream, accepted-room, accepted-length)
+
+pub append-spec : {M : Type 1} → statement M
+unfolding appendResult appendOut
+append-spec = tie.close (tie.spec (λ c κs. search all) (λ c. search all) (λ c. search all) (λ c κs. search all) (λ c κs. search all) (λ c. search all) (λ c κs. search all) (λ c. search all) (λ c. search all) (λ c. search all) (λ c. search all))

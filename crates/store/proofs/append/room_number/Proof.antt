@@ -1,0 +1,10 @@
+-- The bounds, then the buffer.
+use Rattle.store.proofs.AppendLaws.{room-count, room-stream, room-short, room-some}
+use borrow.Author.Needs.{needs}
+use Rattle.store.proofs.append.room_number.Statement.{statement}
+use Rattle.store.proofs.append.room_number.Tie as tie
+
+ruleset all = (needs, room-count, room-stream, room-short, room-some)
+
+pub room-number-spec : {M : Type 1} → statement M
+room-number-spec = tie.close (tie.spec (λ c κs. search all) (λ c κs. search all) (λ c. search all) (λ c. search all) (λ c. search all) (λ c. search all) (λ c κs. search all) (λ c. search all) (λ c. search all) (λ c. search all) (λ c. search all) (λ c. search all))

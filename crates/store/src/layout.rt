@@ -1,0 +1,76 @@
+// The fields of a store, and the names of its answers.
+use catalog::AnswerName;
+ghost use mathlib.Core.Path.{_≡_};
+ghost use Prim.Native.Nat.{_<_};
+ghost use Rattle.octets.specs.BigEndian.{numberAt};
+ghost use Rattle.store.specs.Layout.{narrow, answers, streamLength, streamStart, entryOffset, entryLength, answerStart, nameAt};
+
+// The width of count, stream length, offset and length.
+pub(crate) const FIELD: usize = 2;
+
+// Count and stream length.
+pub(crate) const HEADER: usize = 4;
+
+// Day, offset and length of one answer.
+pub(crate) const ENTRY: usize = 8;
+
+// The width of a day.
+pub(crate) const DAY: usize = 4;
+
+fn field(store: &[u8], at: usize) -> usize
+    ensures { λ r. ⌜ (r ≡ numberAt 2 at (now (store .entry))) × (r < 4294967296) ⌝ }
+{
+    octets::big_endian::number_at(store, at, FIELD) as usize
+}
+
+pub(crate) fn answers(store: &[u8]) -> usize
+    ensures { λ r. ⌜ (r ≡ answers narrow (now (store .entry))) × (r < 4294967296) ⌝ }
+{
+    field(store, 0)
+}
+
+pub(crate) fn stream_length(store: &[u8]) -> usize
+    ensures { λ r. ⌜ (r ≡ streamLength narrow (now (store .entry))) × (r < 4294967296) ⌝ }
+{
+    field(store, FIELD)
+}
+
+// Where the stream begins, behind header and entries.
+pub(crate) fn stream_start(store: &[u8]) -> usize
+    ensures { λ r. ⌜ (r ≡ streamStart narrow (now (store .entry))) × (r < 34359738372) ⌝ }
+{
+    HEADER + ENTRY * answers(store)
+}
+
+pub(crate) fn entry_offset(store: &[u8], i: usize) -> usize
+    requires { ⌜ i < 4294967296 ⌝ }
+    ensures { λ r. ⌜ (r ≡ entryOffset narrow i (now (store .entry))) × (r < 4294967296) ⌝ }
+{
+    field(store, HEADER + ENTRY * i + DAY)
+}
+
+pub(crate) fn entry_length(store: &[u8], i: usize) -> usize
+    requires { ⌜ i < 4294967296 ⌝ }
+    ensures { λ r. ⌜ (r ≡ entryLength narrow i (now (store .entry))) × (r < 4294967296) ⌝ }
+{
+    field(store, HEADER + ENTRY * i + DAY + FIELD)
+}
+
+// Where answer `i` begins in the buffer.
+pub(crate) fn answer_start(store: &[u8], i: usize) -> usize
+    requires { ⌜ i < 4294967296 ⌝ }
+    ensures { λ r. ⌜ (r ≡ answerStart narrow i (now (store .entry))) × (r < 38654705668) ⌝ }
+{
+    stream_start(store) + entry_offset(store, i)
+}
+
+// The TREP stands second in the answer, the day in its entry.
+pub(crate) fn name_at(store: &[u8], i: usize) -> AnswerName
+    requires { ⌜ i < 4294967296 ⌝ }
+    ensures { λ r. ⌜ r ≡ nameAt narrow i (now (store .entry)) ⌝ }
+{
+    AnswerName {
+        trep: octets::big_endian::byte_at(store, answer_start(store, i) + 1),
+        day: octets::big_endian::number_at(store, HEADER + ENTRY * i, DAY),
+    }
+}

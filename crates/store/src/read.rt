@@ -1,0 +1,128 @@
+// Reading a store: one answer by its name, the whole stream, and the answers one by one.
+use crate::HeldAnswer;
+use catalog::AnswerName;
+use octets::Place;
+use octets::numbers::NOT_HELD;
+ghost use mathlib.Core.Path.{_≡_};
+ghost use Prim.Native.Nat.{_<_};
+ghost use Rattle.store.specs.Layout.{narrow};
+ghost use Rattle.store.specs.Read.{position, findPlace, lookupNumber, lookupPlace, lookupPart, streamPlace, streamPart, heldAnswer};
+
+// Which answer has this name, from 0; the count of answers where none has.
+pub(crate) fn position(store: &[u8], name: AnswerName) -> usize
+    ensures { λ r. ⌜ (r ≡ position narrow name (now (store .entry))) × (r < 4294967296) ⌝ }
+{
+    let n = crate::layout::answers(store);
+    let mut i = 0;
+    while i < n {
+        if catalog::same_answer(crate::layout::name_at(store, i), name) {
+            return i;
+        }
+        i += 1;
+    }
+    i
+}
+
+// Where the answer with this name lies in a store that was checked before: 6 where it is not held. Of other bytes it only tells what they say.
+pub fn find(store: &[u8], name: AnswerName) -> Place
+    ensures { λ r. ⌜ r ≡ findPlace narrow name (now (store .entry)) ⌝ }
+{
+    let i = position(store, name);
+    if crate::layout::answers(store) <= i {
+        return Place {
+            number: NOT_HELD,
+            start: 0,
+            len: 0,
+        };
+    }
+    Place {
+        number: 0,
+        start: crate::layout::answer_start(store, i),
+        len: crate::layout::entry_length(store, i),
+    }
+}
+
+// Where the answer with this name lies: 5 for a broken store, 6 where it is not held.
+pub fn locate(store: &[u8], name: AnswerName) -> Place
+    ensures { λ r. ⌜ r ≡ lookupPlace narrow name (now (store .entry)) ⌝ }
+{
+    let number = crate::check::check(store);
+    if number != 0 {
+        return Place {
+            number,
+            start: 0,
+            len: 0,
+        };
+    }
+    find(store, name)
+}
+
+// The number of a lookup, 0 where `lookup` gives the answer.
+pub fn lookup_number(store: &[u8], name: AnswerName) -> u8
+    ensures { λ r. ⌜ r ≡ lookupNumber narrow name (now (store .entry)) ⌝ }
+{
+    locate(store, name).number
+}
+
+// The answer with this name, 76 and TREP included, as part of the buffer; empty where `locate` refuses it.
+pub fn lookup(store: &[u8], name: AnswerName) -> &[u8]
+    ensures { λ r. ⌜ now r ≡ lookupPart narrow name (now (store .entry)) ⌝ }
+{
+    octets::buffer::part(store, locate(store, name))
+}
+
+// Where the stream lies (DDP_034): 5 for a broken store.
+pub fn locate_stream(store: &[u8]) -> Place
+    ensures { λ r. ⌜ r ≡ streamPlace narrow (now (store .entry)) ⌝ }
+{
+    let number = crate::check::check(store);
+    if number != 0 {
+        return Place {
+            number,
+            start: 0,
+            len: 0,
+        };
+    }
+    Place {
+        number: 0,
+        start: crate::layout::stream_start(store),
+        len: crate::layout::stream_length(store),
+    }
+}
+
+// The stream, as part of the buffer; empty where `locate_stream` refuses it.
+pub fn stream(store: &[u8]) -> &[u8]
+    ensures { λ r. ⌜ now r ≡ streamPart narrow (now (store .entry)) ⌝ }
+{
+    octets::buffer::part(store, locate_stream(store))
+}
+
+// Answer `k`, from 0: 5 for a broken store, 6 where it holds no more than `k`.
+pub fn held(store: &[u8], k: usize) -> HeldAnswer
+    ensures { λ r. ⌜ r ≡ heldAnswer narrow k (now (store .entry)) ⌝ }
+{
+    let nothing = AnswerName { trep: 0, day: 0 };
+    let number = crate::check::check(store);
+    if number != 0 {
+        return HeldAnswer {
+            number,
+            name: nothing,
+            start: 0,
+            len: 0,
+        };
+    }
+    if crate::layout::answers(store) <= k {
+        return HeldAnswer {
+            number: NOT_HELD,
+            name: nothing,
+            start: 0,
+            len: 0,
+        };
+    }
+    HeldAnswer {
+        number: 0,
+        name: crate::layout::name_at(store, k),
+        start: crate::layout::answer_start(store, k),
+        len: crate::layout::entry_length(store, k),
+    }
+}
