@@ -33,21 +33,27 @@ pub const ABSENT: u8 = 0xFF;
 
 // TRTP by transfer type (rows) and kind (columns), as document 01 prints it.
 const TRTP: [u8; 18] = [
+    // interface version
     0xFF,
     0xFF,
     0x00,
+    // overview
     0x01,
     0x21,
     0x31,
+    // activities of a day
     0x02,
     0x22,
     0x32,
+    // events and faults
     0x03,
     0x23,
     0x33,
+    // detailed speed
     0x04,
     0x24,
     0x24,
+    // technical data
     0x05,
     0x25,
     0x35,
