@@ -6,12 +6,14 @@ pub mod numbers;
 pub mod sum;
 
 // What a call that writes hands back: number 0 and the bytes at the front of the lent buffer, or a refusal and 0.
+#[repr(C)]
 pub struct Written {
     pub number: u8,
     pub len: usize,
 }
 
 // Where a part lies in the bytes handed in: number 0 and its place, or a refusal and an empty part.
+#[repr(C)]
 pub struct Place {
     pub number: u8,
     pub start: usize,
@@ -19,6 +21,7 @@ pub struct Place {
 }
 
 // A count, or a refusal and 0.
+#[repr(C)]
 pub struct Counted {
     pub number: u8,
     pub count: usize,

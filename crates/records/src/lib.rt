@@ -11,6 +11,7 @@ ghost use Rattle.octets.specs.BigEndian.{numberOf};
 ghost use Rattle.records.specs.Arrays.{foundAt, headerOf, arrayCount, arrayAt, arrayRecords, recordIn, recordPlace, recordOf};
 
 // One array of a body: its header (kind is the record type) and the place of its records in the body. Refused, all zero but the number.
+#[repr(C)]
 pub struct Array {
     pub number: u8,
     pub kind: u8,

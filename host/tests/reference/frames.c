@@ -1,0 +1,72 @@
+/* Document 01, Frames and Splitting. */
+#include "reference.h"
+
+#include <string.h>
+
+enum { UNIT = 0xEE, TOOL = 0xF0 };
+
+uint8_t ref_checksum(const uint8_t *bytes, size_t len)
+{
+    unsigned sum = 0;
+    for (size_t i = 0; i < len; i++) sum += bytes[i];
+    return (uint8_t)sum;
+}
+
+uint8_t ref_frame_check(const uint8_t *f, size_t n, bool at_tool)
+{
+    if (n < 5) return 1;
+    bool start = f[0] == 0x81;
+    if (f[0] != 0x80 && !start) return 2;
+    if (start ? n != 5 : (f[3] == 0 || n != (size_t)f[3] + 5)) return 1;
+    if (f[1] != (at_tool ? TOOL : UNIT) || f[2] != (at_tool ? UNIT : TOOL)) return 2;
+    if (start && (at_tool || f[3] != 0x81)) return 2;
+    return ref_checksum(f, n - 1) == f[n - 1] ? 0 : 3;
+}
+
+tacho_part ref_frame_data(const uint8_t *f, size_t n, bool at_tool)
+{
+    uint8_t number = ref_frame_check(f, n, at_tool);
+    if (number) return (tacho_part){number, 0, 0};
+    if (f[0] == 0x81) return (tacho_part){0, 3, 1};
+    return (tacho_part){0, 4, f[3]};
+}
+
+/* The frame whose data is a head and then a body. */
+static tacho_written frame_of(const uint8_t *head, size_t head_len, const uint8_t *body, size_t body_len, bool to_tool, uint8_t *out,
+                              size_t out_len)
+{
+    size_t n = head_len + body_len;
+    if (n == 0 || n > 255) return (tacho_written){1, 0};
+    if (out_len < n + 5) return (tacho_written){4, 0};
+    out[0] = 0x80;
+    out[1] = to_tool ? TOOL : UNIT;
+    out[2] = to_tool ? UNIT : TOOL;
+    out[3] = (uint8_t)n;
+    if (head_len) memcpy(out + 4, head, head_len);
+    if (body_len) memcpy(out + 4 + head_len, body, body_len);
+    out[n + 4] = ref_checksum(out, n + 4);
+    return (tacho_written){0, n + 5};
+}
+
+tacho_written ref_frame_write(const uint8_t *data, size_t data_len, bool to_tool, uint8_t *out, size_t out_len)
+{
+    return frame_of(NULL, 0, data, data_len, to_tool, out, out_len);
+}
+
+tacho_counted ref_sub_messages(size_t n)
+{
+    if (n > 59998) return (tacho_counted){8, 0};
+    return (tacho_counted){0, n <= 252 ? 1 : n / 251 + 1};
+}
+
+tacho_written ref_sub_message(const uint8_t *data, size_t n, uint8_t trep, uint16_t k, uint8_t *out, size_t out_len)
+{
+    tacho_counted c = ref_sub_messages(n);
+    if (c.number) return (tacho_written){c.number, 0};
+    if (k < 1 || k > c.count) return (tacho_written){10, 0};
+    uint8_t head[4] = {0x76, trep, (uint8_t)(k >> 8), (uint8_t)k};
+    if (n <= 252) return frame_of(head, 2, data, n, true, out, out_len);
+    size_t at = (size_t)(k - 1) * 251;
+    size_t len = n - at < 251 ? n - at : 251;
+    return frame_of(head, 4, data + at, len, true, out, out_len);
+}

@@ -1,0 +1,153 @@
+/* Document 01, Transfer types, Bench store and Record arrays. */
+#include "reference.h"
+#include "tables.h"
+
+#include <string.h>
+
+static const uint8_t table[6][3] = {
+    {0xFF, 0xFF, 0x00}, {0x01, 0x21, 0x31}, {0x02, 0x22, 0x32}, {0x03, 0x23, 0x33}, {0x04, 0x24, 0x24}, {0x05, 0x25, 0x35},
+};
+
+bool ref_known(uint8_t kind, uint8_t trtp)
+{
+    if (trtp == 0xFF || kind > 2) return false;
+    for (int row = 0; row < 6; row++)
+        if (table[row][kind] == trtp) return true;
+    return false;
+}
+
+bool ref_activities(uint8_t trtp)
+{
+    return trtp == 0x02 || trtp == 0x22 || trtp == 0x32;
+}
+
+bool ref_named(uint8_t trep, uint32_t day)
+{
+    if (!ref_known(0, trep) && !ref_known(1, trep) && !ref_known(2, trep)) return false;
+    return ref_activities(trep) ? day % 86400 == 0 : day == 0;
+}
+
+uint32_t ref_be16(const uint8_t *b)
+{
+    return (uint32_t)b[0] << 8 | b[1];
+}
+
+uint32_t ref_be32(const uint8_t *b)
+{
+    return ref_be16(b) << 16 | ref_be16(b + 2);
+}
+
+static void put16(uint8_t *b, uint32_t n)
+{
+    b[0] = (uint8_t)(n >> 8);
+    b[1] = (uint8_t)n;
+}
+
+static const uint8_t *entry(const uint8_t *s, size_t i)
+{
+    return s + 4 + 8 * i;
+}
+
+static const uint8_t *answer(const uint8_t *s, size_t i)
+{
+    return entry(s, ref_be16(s)) + ref_be16(entry(s, i) + 4);
+}
+
+uint8_t ref_store_check(const uint8_t *s, size_t len)
+{
+    if (len < 4) return 5;
+    size_t n = ref_be16(s), t = ref_be16(s + 2), at = 0;
+    if (len < 4 + 8 * n + t || n > 64 || t > 60000) return 5;
+    for (size_t i = 0; i < n; i++) {
+        size_t l = ref_be16(entry(s, i) + 6);
+        if (ref_be16(entry(s, i) + 4) != at || l < 2 || at + l > t) return 5;
+        at += l;
+    }
+    if (at != t) return 5;
+    for (size_t i = 0; i < n; i++)
+        if (answer(s, i)[0] != 0x76 || !ref_named(answer(s, i)[1], ref_be32(entry(s, i)))) return 5;
+    for (size_t i = 0; i < n; i++)
+        for (size_t j = 0; j < i; j++)
+            if (answer(s, i)[1] == answer(s, j)[1] && memcmp(entry(s, i), entry(s, j), 4) == 0) return 5;
+    return 0;
+}
+
+tacho_part ref_store_find(const uint8_t *s, uint8_t trep, uint32_t day)
+{
+    size_t n = ref_be16(s);
+    for (size_t i = 0; i < n; i++)
+        if (answer(s, i)[1] == trep && ref_be32(entry(s, i)) == day)
+            return (tacho_part){0, (size_t)(answer(s, i) - s), ref_be16(entry(s, i) + 6)};
+    return (tacho_part){6, 0, 0};
+}
+
+tacho_part ref_store_lookup(const uint8_t *s, size_t len, uint8_t trep, uint32_t day)
+{
+    if (ref_store_check(s, len)) return (tacho_part){5, 0, 0};
+    return ref_store_find(s, trep, day);
+}
+
+tacho_part ref_store_stream(const uint8_t *s, size_t len)
+{
+    if (ref_store_check(s, len)) return (tacho_part){5, 0, 0};
+    return (tacho_part){0, 4 + 8 * (size_t)ref_be16(s), ref_be16(s + 2)};
+}
+
+tacho_written ref_store_append(uint8_t *s, size_t len, const uint8_t *a, size_t a_len, uint32_t day)
+{
+    if (ref_store_check(s, len)) return (tacho_written){5, 0};
+    if (a_len < 2 || a[0] != 0x76 || !ref_named(a[1], day)) return (tacho_written){12, 0};
+    if (ref_store_find(s, a[1], day).number == 0) return (tacho_written){7, 0};
+    size_t n = ref_be16(s), t = ref_be16(s + 2);
+    if (n + 1 > 64 || a_len > 60000 || t + a_len > 60000) return (tacho_written){8, 0};
+    size_t whole = 4 + 8 * (n + 1) + t + a_len;
+    if (len < whole) return (tacho_written){4, 0};
+    uint8_t *e = s + 4 + 8 * n;
+    memmove(e + 8, e, t);
+    memcpy(e + 8 + t, a, a_len);
+    put16(e, day >> 16);
+    put16(e + 2, day);
+    put16(e + 4, (uint32_t)t);
+    put16(e + 6, (uint32_t)a_len);
+    put16(s, (uint32_t)n + 1);
+    put16(s + 2, (uint32_t)(t + a_len));
+    return (tacho_written){0, whole};
+}
+
+/* The array whose header begins at `at`: its records' length, or -1 where none stands there. */
+static int64_t records_at(const uint8_t *b, size_t len, size_t at)
+{
+    if (len - at < 5) return -1;
+    uint64_t size = ref_be16(b + at + 1), bytes = size * ref_be16(b + at + 3);
+    return size == 0 || bytes > len - at - 5 ? -1 : (int64_t)bytes;
+}
+
+tacho_counted ref_array_count(const uint8_t *b, size_t len)
+{
+    size_t at = 0, count = 0;
+    while (at < len) {
+        int64_t bytes = records_at(b, len, at);
+        if (bytes < 0) return (tacho_counted){9, 0};
+        at += 5 + (size_t)bytes;
+        count++;
+    }
+    return (tacho_counted){0, count};
+}
+
+tacho_array ref_array_at(const uint8_t *b, size_t len, size_t k)
+{
+    tacho_counted c = ref_array_count(b, len);
+    if (c.number) return (tacho_array){9, 0, 0, 0, 0, 0};
+    if (k >= c.count) return (tacho_array){10, 0, 0, 0, 0, 0};
+    size_t at = 0;
+    while (k--) at += 5 + (size_t)records_at(b, len, at);
+    return (tacho_array){0, b[at], (uint16_t)ref_be16(b + at + 1), (uint16_t)ref_be16(b + at + 3), at + 5, (size_t)records_at(b, len, at)};
+}
+
+tacho_part ref_record_at(const uint8_t *b, size_t len, size_t k, size_t r)
+{
+    tacho_array a = ref_array_at(b, len, k);
+    if (a.number) return (tacho_part){a.number, 0, 0};
+    if (r >= a.count) return (tacho_part){10, 0, 0};
+    return (tacho_part){0, a.start + r * a.size, a.size};
+}

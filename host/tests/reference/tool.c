@@ -1,0 +1,158 @@
+/* Document 01, The tool. */
+#include "reference.h"
+#include "tables.h"
+
+#include <string.h>
+
+typedef struct {
+    uint8_t request, outcome, code, trep;
+    uint32_t day;
+    uint8_t sendings;
+    uint32_t expected, held;
+} tool;
+
+uint8_t ref_tool_fresh(uint8_t *state, size_t len)
+{
+    if (len < TACHO_TOOL_STATE) return 4;
+    memset(state, 0, TACHO_TOOL_STATE);
+    return 0;
+}
+
+static bool unpack(const uint8_t *s, size_t len, tool *t)
+{
+    if (len != TACHO_TOOL_STATE || s[0] > 5 || s[1] > 5) return false;
+    *t = (tool){s[0], s[1], s[2], s[3], ref_be32(s + 4), s[8], ref_be16(s + 9), ref_be32(s + 11)};
+    return t->outcome == TACHO_REFUSED || t->code == 0;
+}
+
+static void pack(const tool *t, uint8_t *s)
+{
+    uint8_t b[TACHO_TOOL_STATE] = {t->request, t->outcome, t->code, t->trep, (uint8_t)(t->day >> 24), (uint8_t)(t->day >> 16),
+                                   (uint8_t)(t->day >> 8), (uint8_t)t->day, t->sendings, (uint8_t)(t->expected >> 8), (uint8_t)t->expected,
+                                   (uint8_t)(t->held >> 24), (uint8_t)(t->held >> 16), (uint8_t)(t->held >> 8), (uint8_t)t->held};
+    memcpy(s, b, sizeof b);
+}
+
+/* A state that waits and may do so, with a room of that length. */
+static bool waits(const tool *t, size_t room_len)
+{
+    if (t->outcome != TACHO_WAITING || t->sendings < 1 || t->sendings > 3) return false;
+    if (t->request != TACHO_TRANSFER) return true;
+    if (!ref_named(t->trep, t->day) || t->expected == 0) return false;
+    uint64_t held = t->expected == 1 ? 0 : 2 + 251 * (uint64_t)(t->expected - 1);
+    return t->held == held && held <= room_len && held <= 60000;
+}
+
+static size_t send_frame(const tool *t, uint8_t *out)
+{
+    static const uint8_t start[5] = {0x81, 0xEE, 0xF0, 0x81, 0xE0};
+    static const uint8_t upload[10] = {0x35, 0, 0, 0, 0, 0, 0xFF, 0xFF, 0xFF, 0xFF};
+    uint8_t d[6] = {0x36, t->trep, (uint8_t)(t->day >> 24), (uint8_t)(t->day >> 16), (uint8_t)(t->day >> 8), (uint8_t)t->day};
+    uint8_t ack[4] = {0x83, 0x76, (uint8_t)(t->expected >> 8), (uint8_t)t->expected};
+    switch (t->request) {
+    case TACHO_START: memcpy(out, start, 5); return 5;
+    case TACHO_OPEN_SESSION: return ref_frame_write((const uint8_t[]){0x10, 0x81}, 2, false, out, 260).len;
+    case TACHO_UPLOAD: return ref_frame_write(upload, 10, false, out, 260).len;
+    case TACHO_EXIT: return ref_frame_write((const uint8_t[]){0x37}, 1, false, out, 260).len;
+    case TACHO_STOP: return ref_frame_write((const uint8_t[]){0x82}, 1, false, out, 260).len;
+    default:
+        if (t->expected > 1) return ref_frame_write(ack, 4, false, out, 260).len;
+        return ref_frame_write(d, ref_activities(t->trep) ? 6 : 2, false, out, 260).len;
+    }
+}
+
+tacho_written ref_tool_begin(uint8_t *state, size_t state_len, uint8_t request, uint8_t trep, uint32_t day, uint8_t *out, size_t out_len)
+{
+    tool t;
+    if (request > 5 || (request == 5 ? !ref_named(trep, day) : trep != 0 || day != 0)) return (tacho_written){12, 0};
+    if (!unpack(state, state_len, &t) || t.outcome == TACHO_WAITING) return (tacho_written){11, 0};
+    if (out_len < 260) return (tacho_written){4, 0};
+    t = (tool){request, TACHO_WAITING, 0, trep, day, 1, 1, 0};
+    pack(&t, state);
+    return (tacho_written){0, send_frame(&t, out)};
+}
+
+static size_t failed_wait(tool *t, uint8_t *out)
+{
+    if (t->sendings == 3) {
+        t->outcome = TACHO_NO_ANSWER;
+        return 0;
+    }
+    t->sendings++;
+    return send_frame(t, out);
+}
+
+/* New bytes, in two parts, behind those held; false where they pass the room or 60,000. */
+static bool hold(tool *t, const uint8_t *a, size_t a_len, const uint8_t *b, size_t b_len, uint8_t *room, size_t room_len)
+{
+    size_t end = t->held + a_len + b_len;
+    if (end > room_len || end > 60000) {
+        t->outcome = TACHO_NO_ROOM;
+        return false;
+    }
+    if (a_len) memcpy(room + t->held, a, a_len);
+    if (b_len) memcpy(room + t->held + a_len, b, b_len);
+    t->held = (uint32_t)end;
+    return true;
+}
+
+static size_t on_answer(tool *t, const uint8_t *d, size_t n, uint8_t *room, size_t room_len, uint8_t *out)
+{
+    if (n < 2 || d[0] != 0x76 || d[1] != t->trep) return 0;
+    if (t->expected == 1 && n < 255) {
+        if (hold(t, d, n, NULL, 0, room, room_len)) t->outcome = TACHO_DONE;
+        return 0;
+    }
+    if (n < 4 || ref_be16(d + 2) < t->expected) return 0;
+    if (ref_be16(d + 2) > t->expected) return failed_wait(t, out);
+    if (!hold(t, d, t->expected == 1 ? 2 : 0, d + 4, n - 4, room, room_len))
+        return ref_frame_write((const uint8_t[]){0x83, 0x76, 0xFF, 0xFF}, 4, false, out, 260).len;
+    if (n < 255) {
+        t->outcome = TACHO_DONE;
+        return 0;
+    }
+    t->expected++;
+    t->sendings = 1;
+    return send_frame(t, out);
+}
+
+static size_t on_data(tool *t, const uint8_t *d, size_t n, uint8_t *room, size_t room_len, uint8_t *out)
+{
+    static const uint8_t sids[5] = {0x81, 0x10, 0x35, 0x37, 0x82};
+    static const uint8_t replies[5][3] = {{0xC1, 0xEA, 0x8F}, {0x50, 0x81}, {0x75, 0x00, 0xFF}, {0x77}, {0xC2}};
+    static const size_t lengths[5] = {3, 2, 3, 1, 1};
+    bool transfer = t->request == TACHO_TRANSFER;
+    uint8_t sid = transfer ? (t->expected == 1 ? 0x36 : 0x83) : sids[t->request];
+    if (n == 3 && d[0] == 0x7F && d[1] == sid) {
+        if (d[2] == 0x78) return 0;
+        t->outcome = TACHO_REFUSED;
+        t->code = d[2];
+        return 0;
+    }
+    if (transfer) return on_answer(t, d, n, room, room_len, out);
+    if (n == lengths[t->request] && memcmp(d, replies[t->request], n) == 0) t->outcome = TACHO_DONE;
+    return 0;
+}
+
+tacho_written ref_tool_arrived(uint8_t *state, size_t state_len, const uint8_t *frame, size_t frame_len, uint8_t *room, size_t room_len,
+                               uint8_t *out, size_t out_len)
+{
+    tool t;
+    if (!unpack(state, state_len, &t) || !waits(&t, room_len)) return (tacho_written){11, 0};
+    if (out_len < 260) return (tacho_written){4, 0};
+    tacho_part d = ref_frame_data(frame, frame_len, true);
+    size_t len = d.number ? failed_wait(&t, out) : on_data(&t, frame + d.start, d.len, room, room_len, out);
+    pack(&t, state);
+    return (tacho_written){0, len};
+}
+
+tacho_written ref_tool_wait_ended(uint8_t *state, size_t state_len, uint8_t *room, size_t room_len, uint8_t *out, size_t out_len)
+{
+    tool t;
+    (void)room;
+    if (!unpack(state, state_len, &t) || !waits(&t, room_len)) return (tacho_written){11, 0};
+    if (out_len < 260) return (tacho_written){4, 0};
+    size_t len = failed_wait(&t, out);
+    pack(&t, state);
+    return (tacho_written){0, len};
+}
