@@ -70,6 +70,9 @@ typedef struct { uint8_t number; uint8_t type; uint16_t size; uint16_t count; si
 
 /* Frames. at_tool: judged at the tool (true) or at the unit (false); to_tool: written to the tool or to the unit. */
 
+/* The sum of the bytes, modulo 256: the checksum of a frame is that of all bytes before it. */
+uint8_t tacho_checksum(const uint8_t *bytes, size_t bytes_len);
+
 /* 0 for a good frame, else 1, 2 or 3. */
 uint8_t tacho_frame_check(const uint8_t *frame, size_t frame_len, bool at_tool);
 

@@ -1,0 +1,50 @@
+#include "messages.h"
+
+const char *number_text(uint8_t number)
+{
+    static const char *const texts[] = {
+        "not refused",
+        "wrong count of bytes in a frame",
+        "wrong format or address in a frame",
+        "wrong checksum in a frame",
+        "a lent buffer is too short",
+        "the store breaks its rules",
+        "the answer is not held",
+        "the answer is held already",
+        "over 64 answers or 60,000 bytes",
+        "the body is no run of record arrays",
+        "no such array, record or sub message",
+        "impossible state, or a call out of turn",
+        "not in the table of transfer types, or its day is not allowed",
+    };
+    return number < sizeof texts / sizeof *texts ? texts[number] : "unknown number";
+}
+
+const char *code_text(uint8_t code)
+{
+    switch (code) {
+    case 0x10: return "general reject";
+    case 0x11: return "service not supported";
+    case 0x12: return "sub function not supported, or no further sub message";
+    case 0x13: return "incorrect message length";
+    case 0x22: return "conditions not correct, or request sequence error";
+    case 0x31: return "request out of range";
+    case 0x50: return "upload not accepted";
+    case 0x78: return "response pending";
+    case 0xFA: return "data not available";
+    default: return "a code that the appendix does not list";
+    }
+}
+
+const char *type_text(uint8_t trep)
+{
+    switch (trep) {
+    case 0x00: return "interface version";
+    case 0x01: case 0x21: case 0x31: return "overview";
+    case 0x02: case 0x22: case 0x32: return "activities";
+    case 0x03: case 0x23: case 0x33: return "events and faults";
+    case 0x04: case 0x24: return "detailed speed";
+    case 0x05: case 0x25: case 0x35: return "technical data";
+    default: return "no listed type";
+    }
+}
