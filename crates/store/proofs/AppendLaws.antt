@@ -1,44 +1,24 @@
 -- Appending, from the tests of the code: the number, and the bytes written one behind the other.
 use Prim.Native.Nat.{ℕ, _+_, _-_, _*_, _<_, _≤_}
-use mathlib.Core.Bool.{Bool, true, false, cond, not}
-use mathlib.Core.List.{List, [], _∷_, _++_, append-assoc}
+use mathlib.Core.Bool.{true, false, not}
+use mathlib.Core.List.{List, [], _++_, append-assoc}
 use mathlib.Core.Path.{_≡_, refl, sym, ap, _∙_}
 use native.Mathlib.Omega.{arith}
 use lib.Dec.{eqb, ltb, leb}
-use lib.ListN.{length, getD, take, drop, length-append, length-take, length-drop, take-append-drop}
-use lib.Seq.{slice, take-all, take-append-le, drop-append-le, drop-append-add, drop-drop, take-at, drop-at, length-take-le, length-slice}
-use borrow.Author.Tests.{lt-ltb, le-ltb, le-leb, lt-leb, eq-eqb, ne-eqb, leb-true, leb-false, eqb-true, eqb-false, ltb-false, not-true}
-use Rattle.octets.specs.Order.{unless, orElse}
+use lib.ListN.{length, getD, take, drop, length-append, length-take, length-drop}
+use lib.Seq.{slice, take-all, drop-drop, take-at, drop-at, length-take-le, length-slice}
+use borrow.Author.Tests.{lt-ltb, le-ltb, le-leb, lt-leb, eq-eqb, ne-eqb, leb-true, eqb-true, ltb-false, not-true}
 use Rattle.octets.specs.Numbers.{changedBy}
 use Rattle.octets.specs.Buffer.{partAt, front, put, copied, moved, shifted}
-use Rattle.octets.specs.BigEndian.{bytesOf, fieldWidth, withNumber}
-use Rattle.octets.proofs.Tests.{and-left, and-right}
+use Rattle.octets.specs.BigEndian.{bytesOf, withNumber}
 use Rattle.octets.proofs.BufferLaws.{length-part, length-front, put-front, lent-copy, shifted-fits}
-use Rattle.octets.proofs.NumberLaws.{length-bytes}
 use Rattle.octets.proofs.CallLaws.{changed-by}
 use Rattle.catalog.specs.Name.{nameNumber}
-use Rattle.catalog.specs.declared.AnswerName.{AnswerName}
+use Rattle.store.proofs.PartLaws.{unless-is, or-zero, part-left, part-take, number-behind, front-kept, front-same}
 use Rattle.store.specs.Layout.{narrow, answers, streamLength, streamStart, storeLength, streamOf}
 use Rattle.store.specs.Check.{storeNumber}
 use Rattle.store.specs.Read.{position}
 use Rattle.store.specs.Append.{nameOf, answerNumber, roomNumber, appendNumber, withAnswer}
-
--- Checks in order, read backwards from number 0
-
-pub record Both (A B : Type 0) : Type 0 where
-  pub first : A
-  pub rest : B
-
-pub unless-zero : (holds : Bool) (k rest : ℕ) → eqb k 0 ≡ false → unless holds k rest ≡ 0 → Both (holds ≡ true) (rest ≡ 0)
-unless-zero true k rest n e = record { first = refl; rest = e }
-unless-zero false k rest n e = absurd (eqb-false k 0 n e)
-
-pub or-zero : (a b : ℕ) → orElse a b ≡ 0 → Both (a ≡ 0) (b ≡ 0)
-or-zero a b e = go (eqb a 0) refl e
-  where
-    go : (t : Bool) → eqb a 0 ≡ t → cond t b a ≡ 0 → Both (a ≡ 0) (b ≡ 0)
-    go true p q = record { first = eqb-true a 0 p; rest = q }
-    go false p q = absurd (eqb-false a 0 p q)
 
 -- The name of an answer to append
 
@@ -54,6 +34,19 @@ module _ (a : List ℕ) (day : ℕ) where
   pub answer-named : (r : ℕ) → 2 ≤ length a → getD a 0 0 ≡ 0x76 → r ≡ nameNumber (nameOf a day) → r ≡ answerNumber a day
   unfolding answerNumber
   answer-named r l h e = rw (le-leb 2 (length a) l, eq-eqb (getD a 0 0) 0x76 h) e
+
+  -- what number 0 says: at least two bytes, 76 first, and a name that number 12 allows
+  pub answer-long : answerNumber a day ≡ 0 → 2 ≤ length a
+  unfolding answerNumber
+  answer-long e = leb-true 2 (length a) (unless-is (leb 2 (length a)) 12 _ 0 refl e .first)
+
+  pub answer-begun : answerNumber a day ≡ 0 → getD a 0 0 ≡ 0x76
+  unfolding answerNumber
+  answer-begun e = eqb-true _ _ (unless-is (eqb (getD a 0 0) 0x76) 12 _ 0 refl (unless-is (leb 2 (length a)) 12 _ 0 refl e .rest) .first)
+
+  pub answer-allowed : answerNumber a day ≡ 0 → nameNumber (nameOf a day) ≡ 0
+  unfolding answerNumber
+  answer-allowed e = unless-is (eqb (getD a 0 0) 0x76) 12 _ 0 refl (unless-is (leb 2 (length a)) 12 _ 0 refl e .rest) .rest
 
 -- The room; m is the answer's length, n, t and b what the code read
 
@@ -120,10 +113,10 @@ unfolding appendNumber roomNumber
 accepted a day s e =
     let p = or-zero _ _ e in
     let q = or-zero _ _ (p .rest) in
-    let h = unless-zero _ 7 _ refl (q .rest) in
-    let n = unless-zero _ 8 _ refl (h .rest) in
-    let t = unless-zero _ 8 _ refl (n .rest) in
-    let l = unless-zero _ 4 _ refl (t .rest) in
+    let h = unless-is _ 7 _ 0 refl (q .rest) in
+    let n = unless-is _ 8 _ 0 refl (h .rest) in
+    let t = unless-is _ 8 _ 0 refl (n .rest) in
+    let l = unless-is _ 4 _ 0 refl (t .rest) in
     record {
       unbroken = p .first;
       listed = q .first;
@@ -149,34 +142,6 @@ module _ (a : List ℕ) (day : ℕ) (s : List ℕ) (r : ℕ) (e : r ≡ appendNu
 
   pub accepted-length : (b t : ℕ) → b ≡ streamStart narrow s → t ≡ streamLength narrow s → b + t + 8 + length a ≡ changedBy (appendNumber narrow a day s) (storeLength narrow s + 8 + length a) 0
   accepted-length b t p q = changed-by r _ _ _ 0 e z (rw (p, q))
-
--- Fronts: a field written behind one, and bytes behind it that stay
-
-module _ (p o : List ℕ) where
-  pub number-behind : (w at n : ℕ) → fieldWidth w ≡ true → length p ≡ at → at + w ≤ length o → withNumber w at n (front p o) ≡ front (p ++ bytesOf w n) o
-  unfolding withNumber
-  number-behind w at n f e h =
-      let l : length (front p o) ≡ length o = length-front p o (omega arith) in
-      rw (f, l, le-leb (at + w) (length o) h) (put-front at p (bytesOf w n) o e)
-
-  pub front-kept : (at k : ℕ) → length p ≡ at → at + k ≤ length o → front p o ≡ front (p ++ partAt at k o) o
-  unfolding front
-  front-kept at k e h =
-      let l : length (partAt at k o) ≡ k = simp (length-take, length-drop) (omega arith) in
-      rw (length-append p (partAt at k o), l, e, append-assoc p (partAt at k o), ← drop-drop k at o, take-append-drop k (drop at o))
-
--- a part that lies in the front of what is appended
-pub part-left : (at k : ℕ) (p q : List ℕ) → at + k ≤ length p → partAt at k (p ++ q) ≡ partAt at k p
-part-left at k p q h = rw (drop-append-le at p q (omega arith)) (take-append-le k (drop at p) q (simp length-drop (omega arith)))
-
-pub part-take : (at k m : ℕ) (s : List ℕ) → at + k ≤ m → m ≤ length s → partAt at k (take m s) ≡ partAt at k s
-part-take at k m s h l =
-    sym (part-left at k (take m s) (drop m s) (simp length-take (omega arith))) ∙ ap (partAt at k) (take-append-drop m s)
-
--- a front of what already stands there changes nothing
-front-same : (at : ℕ) (s : List ℕ) → at ≤ length s → s ≡ front (take at s) s
-unfolding front
-front-same at s h = rw (length-take-le at s h) (sym (take-append-drop at s))
 
 -- The header: two fields at the front
 pub header-written : (s o₁ o₂ : List ℕ) (n t : ℕ) → 4 ≤ length s → o₁ ≡ withNumber 2 0 n s → o₂ ≡ withNumber 2 2 t o₁ → o₂ ≡ front (bytesOf 2 n ++ bytesOf 2 t) s
@@ -223,12 +188,7 @@ module _ (a : List ℕ) (day : ℕ) (s : List ℕ) (n t b : ℕ) (en : n ≡ ans
       let h = fits in
       rw f₁ (simp (length-append, length-take, length-drop) (omega arith))
 
-  pub last-header : 4 ≤ length o₁
-  last-header = omega (arith, places, fits, l₁)
-
-  pub last-entry : b + 8 ≤ length o₂
-  last-entry = rw (e₂, length-front (bytesOf 2 (n + 1) ++ bytesOf 2 (t + length a)) o₁ last-header) (omega (arith, fits, l₁))
-
+  -- the old entries stay where they were, the stream lies one entry higher, and what is behind the new store stays
   entries : partAt 4 (8 * n) o₁ ≡ partAt 4 (8 * n) s
   entries =
       let h = fits in
@@ -254,47 +214,46 @@ module _ (a : List ℕ) (day : ℕ) (s : List ℕ) (n t b : ℕ) (en : n ≡ ans
       let g : drop (b + t + 8) o₁ ≡ drop (b + t + 8) s = rw f (drop-at p (drop (b + t + 8) s) (b + t + 8) l) in
       sym (drop-drop (length a) (b + t + 8) o₁) ∙ ap (drop (length a)) g ∙ drop-drop (length a) (b + t + 8) s
 
-  f₂ : List ℕ
-  f₂ = (bytesOf 2 (n + 1) ++ bytesOf 2 (t + length a)) ++ partAt 4 (8 * n) s
+  -- the new store up to its last entry, and up to the answer
+  beforeEntry : List ℕ
+  beforeEntry = (bytesOf 2 (n + 1) ++ bytesOf 2 (t + length a)) ++ partAt 4 (8 * n) s
 
-  f₃ : List ℕ
-  f₃ = (f₂ ++ (bytesOf 4 day ++ (bytesOf 2 t ++ bytesOf 2 (length a)))) ++ partAt b t s
+  beforeAnswer : List ℕ
+  beforeAnswer = (beforeEntry ++ (bytesOf 4 day ++ (bytesOf 2 t ++ bytesOf 2 (length a)))) ++ partAt b t s
 
-  long₂ : length f₂ ≡ b
-  unfolding f₂
-  long₂ =
+  long-entry : length beforeEntry ≡ b
+  unfolding beforeEntry
+  long-entry =
       let h = fits in
       let q = places in
       length-append (bytesOf 2 (n + 1) ++ bytesOf 2 (t + length a)) (partAt 4 (8 * n) s) ∙ (omega (arith, length-part s 4 (8 * n) (omega arith)))
 
-  long₃ : length f₃ ≡ b + t + 8
-  unfolding f₃
-  long₃ =
+  long-answer : length beforeAnswer ≡ b + t + 8
+  unfolding beforeAnswer
+  long-answer =
       let h = fits in
-      length-append (f₂ ++ (bytesOf 4 day ++ (bytesOf 2 t ++ bytesOf 2 (length a)))) (partAt b t s)
-      ∙ omega (arith, length-append f₂ (bytesOf 4 day ++ (bytesOf 2 t ++ bytesOf 2 (length a))), long₂, length-part s b t (omega arith))
+      length-append (beforeEntry ++ (bytesOf 4 day ++ (bytesOf 2 t ++ bytesOf 2 (length a)))) (partAt b t s)
+      ∙ omega (arith, length-append beforeEntry (bytesOf 4 day ++ (bytesOf 2 t ++ bytesOf 2 (length a))), long-entry, length-part s b t (omega arith))
 
-  all : o₃ ≡ front f₃ o₁
-  unfolding f₂ f₃
+  -- after the three writes all but the answer stands
+  all : o₃ ≡ front beforeAnswer o₁
+  unfolding beforeEntry beforeAnswer
   all =
       let h = fits in
       let q = places in
       let l = l₁ in
       let p : List ℕ = bytesOf 2 (n + 1) ++ bytesOf 2 (t + length a) in
       let v : List ℕ = bytesOf 4 day ++ (bytesOf 2 t ++ bytesOf 2 (length a)) in
-      let g₂ : o₂ ≡ front f₂ o₁ = e₂ ∙ front-kept p o₁ 4 (8 * n) refl (omega arith) ∙ ap (λ (x : List ℕ). front (p ++ x) o₁) entries in
-      let g₃ : o₃ ≡ front (f₂ ++ v) o₁ = e₃ ∙ ap (put b v) g₂ ∙ put-front b f₂ v o₁ long₂ in
-      let m : length (f₂ ++ v) ≡ b + 8 = length-append f₂ v ∙ (omega (arith, long₂)) in
-      g₃ ∙ front-kept (f₂ ++ v) o₁ (b + 8) t m (omega arith) ∙ ap (λ (x : List ℕ). front ((f₂ ++ v) ++ x) o₁) stream
+      let g₂ : o₂ ≡ front beforeEntry o₁ = e₂ ∙ front-kept p o₁ 4 (8 * n) refl (omega arith) ∙ ap (λ (x : List ℕ). front (p ++ x) o₁) entries in
+      let g₃ : o₃ ≡ front (beforeEntry ++ v) o₁ = e₃ ∙ ap (put b v) g₂ ∙ put-front b beforeEntry v o₁ long-entry in
+      let m : length (beforeEntry ++ v) ≡ b + 8 = length-append beforeEntry v ∙ (omega (arith, long-entry)) in
+      g₃ ∙ front-kept (beforeEntry ++ v) o₁ (b + 8) t m (omega arith) ∙ ap (λ (x : List ℕ). front ((beforeEntry ++ v) ++ x) o₁) stream
 
   l₃ : length o₃ ≡ length s
-  l₃ = rw (all, length-front f₃ o₁ (omega (arith, long₃, fits, l₁))) l₁
+  l₃ = rw (all, length-front beforeAnswer o₁ (omega (arith, long-answer, fits, l₁))) l₁
 
-  pub last-fits : b + t + 8 ≤ length o₃
-  last-fits = omega (arith, fits, l₃)
-
-  whole : f₃ ++ a ≡ withAnswer narrow a day s
-  unfolding f₂ f₃ withAnswer
+  whole : beforeAnswer ++ a ≡ withAnswer narrow a day s
+  unfolding beforeEntry beforeAnswer withAnswer
   whole =
       rw (en, et, eb)
       (regroup (bytesOf 2 (answers narrow s + 1)) (bytesOf 2 (streamLength narrow s + length a)) (partAt 4 (8 * answers narrow s) s) (bytesOf 4 day) (bytesOf 2 (streamLength narrow s))
@@ -304,9 +263,9 @@ module _ (a : List ℕ) (day : ℕ) (s : List ℕ) (n t b : ℕ) (en : n ≡ ans
       → take (b + t + 8) o₃ ++ (o ++ drop (length o₃ - (b + t + 8)) (drop (b + t + 8) o₃)) ≡ front (withAnswer narrow a day s) s
   unfolding front
   last-is o e =
-      let l : length (f₃ ++ a) ≡ b + t + 8 + length a = length-append f₃ a ∙ (omega (arith, long₃)) in
+      let l : length (beforeAnswer ++ a) ≡ b + t + 8 + length a = length-append beforeAnswer a ∙ (omega (arith, long-answer)) in
       lent-copy (b + t + 8) a o₃ o (omega (arith, fits, l₃)) e
       ∙ ap (put (b + t + 8) a) all
-      ∙ put-front (b + t + 8) f₃ a o₁ long₃
-      ∙ ap (λ (x : List ℕ). (f₃ ++ a) ++ x) (ap (λ (m : ℕ). drop m o₁) l ∙ behind ∙ ap (λ (m : ℕ). drop m s) (sym l))
+      ∙ put-front (b + t + 8) beforeAnswer a o₁ long-answer
+      ∙ ap (λ (x : List ℕ). (beforeAnswer ++ a) ++ x) (ap (λ (m : ℕ). drop m o₁) l ∙ behind ∙ ap (λ (m : ℕ). drop m s) (sym l))
       ∙ ap (λ (x : List ℕ). front x s) whole

@@ -1,6 +1,6 @@
 -- "Appending puts the answer last", in place: the entries grow by one, so the stream moves up; bytes behind the new store stay.
 use Prim.Native.Nat.{ℕ, _+_, _*_}
-use mathlib.Core.Bool.{_&&_, not}
+use mathlib.Core.Bool.{not}
 use mathlib.Core.List.{List, _++_}
 use lib.ListN.{length, getD}
 use lib.Dec.{eqb, ltb, leb}
@@ -11,7 +11,7 @@ use Rattle.octets.specs.Buffer.{partAt, front}
 use Rattle.octets.specs.declared.Written.{Written}
 use Rattle.catalog.specs.Name.{nameNumber}
 use Rattle.catalog.specs.declared.AnswerName.{AnswerName}
-use Rattle.store.specs.Layout.{Form, headerSize, entrySize, answers, streamLength, streamStart, storeLength, streamOf}
+use Rattle.store.specs.Layout.{Form, headerSize, entrySize, answers, streamLength, storeLength, streamOf}
 use Rattle.store.specs.Check.{storeNumber}
 use Rattle.store.specs.Read.{position}
 

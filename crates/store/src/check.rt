@@ -6,9 +6,9 @@ use crate::layout::HEADER;
 use catalog::AnswerName;
 use octets::numbers::STORE_BROKEN;
 ghost use mathlib.Core.Path.{_≡_};
-ghost use Prim.Native.Nat.{_≤_, _<_};
-ghost use Rattle.store.specs.Layout.{narrow, answers, streamLength};
-ghost use Rattle.store.specs.Check.{headerFits, countsFit, placeRight, placesRight, answerRight, answersRight, namedFrom, namesDiffer, storeNumber};
+ghost use Prim.Native.Nat.{_<_};
+ghost use Rattle.store.specs.Layout.{narrow, answers};
+ghost use Rattle.store.specs.Check.{headerFits, countsFit, placesRight, answerRight, answersRight, namedFrom, namesDiffer, storeNumber};
 
 fn header_fits(store: &[u8]) -> bool
     ensures { λ r. ⌜ r ≡ headerFits narrow (now (store .entry)) ⌝ }

@@ -1,4 +1,4 @@
-// The fields of a store, and the names of its answers.
+// The fields of a store, and the names of its answers. Every number read is below 2^32, so that no sum of a few of them wraps.
 use catalog::AnswerName;
 ghost use mathlib.Core.Path.{_≡_};
 ghost use Prim.Native.Nat.{_<_};

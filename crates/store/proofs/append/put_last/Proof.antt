@@ -1,10 +1,10 @@
 -- The stream moved up, the header, the entry and the answer make the new store.
-use Rattle.store.proofs.AppendLaws.{last-header, last-entry, last-fits, last-is}
+use Rattle.store.proofs.AppendLaws.{last-is}
 use borrow.Author.Needs.{needs}
 use Rattle.store.proofs.append.put_last.Statement.{statement}
 use Rattle.store.proofs.append.put_last.Tie as tie
 
-ruleset all = (needs, last-header, last-entry, last-fits, last-is)
+ruleset all = (needs, last-is)
 
 pub put-last-spec : {M : Type 1} → statement M
 put-last-spec = tie.close (tie.spec (λ c κs. search all) (λ c κs. search all) (λ c κs. search all) (λ c. search all) (λ c κs. search all) (λ c. search all) (λ c. search all) (λ c. search all) (λ c. search all) (λ c κs. search all) (λ c. search all) (λ c. search all) (λ c κs. search all) (λ c. search all) (λ c. search all) (λ c. search all) (λ c. search all) (λ c κs. search all) (λ c. search all) (λ c. search all))

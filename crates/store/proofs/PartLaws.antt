@@ -1,0 +1,116 @@
+-- Parts of buffers, fields in them, and checks in order: laws over any bytes.
+use Prim.Native.Nat.{ℕ, _+_, _^_, _<_, _≤_}
+use mathlib.Core.Bool.{Bool, true, false, cond}
+use mathlib.Core.List.{List, _++_, append-assoc}
+use mathlib.Core.Logic.{_⊎_, inl, inr}
+use mathlib.Core.Path.{_≡_, refl, sym, ap, _∙_}
+use native.Mathlib.Omega.{arith}
+use lib.Dec.{eqb}
+use lib.ListN.{length, getD, take, drop, length-append, length-take, length-drop, take-append-drop}
+use lib.Seq.{take-append-le, drop-append-le, drop-drop, take-at, drop-at, length-take-le, getD-take, getD-drop}
+use borrow.Author.Tests.{le-leb, eqb-true, eqb-false}
+use Rattle.octets.specs.Order.{unless, orElse}
+use Rattle.octets.specs.Buffer.{partAt, front}
+use Rattle.octets.specs.BigEndian.{numberOf, bytesOf, fieldWidth, numberAt, withNumber}
+use Rattle.octets.proofs.BufferLaws.{length-front, length-part, put-front}
+use Rattle.octets.proofs.NumberLaws.{length-bytes, number-of-bytes}
+
+-- Checks in order, read backwards from the number that they give
+
+pub record Both (A B : Type 0) : Type 0 where
+  pub first : A
+  pub rest : B
+
+-- a check with another refusal than k holds, and k comes from the rest
+pub unless-is : (holds : Bool) (j rest k : ℕ) → eqb j k ≡ false → unless holds j rest ≡ k → Both (holds ≡ true) (rest ≡ k)
+unless-is true j rest k n e = record { first = refl; rest = e }
+unless-is false j rest k n e = absurd (eqb-false j k n e)
+
+-- a check with refusal k fails where k does not come from the rest
+pub unless-fails : (holds : Bool) (k rest : ℕ) → (rest ≡ k → ⊥) → unless holds k rest ≡ k → holds ≡ false
+unless-fails true k rest n e = absurd (n e)
+unless-fails false k rest n e = refl
+
+-- checks that share one refusal
+pub unless-either : (holds : Bool) (k rest : ℕ) → (rest ≡ 0) ⊎ (rest ≡ k) → (unless holds k rest ≡ 0) ⊎ (unless holds k rest ≡ k)
+unless-either true k rest h = h
+unless-either false k rest h = inr refl
+
+-- number 0 comes from both groups of checks
+pub or-zero : (a b : ℕ) → orElse a b ≡ 0 → Both (a ≡ 0) (b ≡ 0)
+or-zero a b e = go (eqb a 0) refl e
+  where
+    go : (t : Bool) → eqb a 0 ≡ t → cond t b a ≡ 0 → Both (a ≡ 0) (b ≡ 0)
+    go true p q = record { first = eqb-true a 0 p; rest = q }
+    go false p q = absurd (eqb-false a 0 p q)
+
+-- numbers before that are 0 or j leave k to the rest
+pub or-is : (a j b k : ℕ) → (a ≡ 0) ⊎ (a ≡ j) → eqb j 0 ≡ false → eqb j k ≡ false → orElse a b ≡ k → Both (a ≡ 0) (b ≡ k)
+or-is a j b k (inl z) n m e = record { first = z; rest = rw z at e }
+or-is a j b k (inr q) n m e = absurd (eqb-false j k m (rw (q, n) at e))
+
+-- Parts
+
+-- a part that lies in the front of what is appended
+pub part-left : (at k : ℕ) (p q : List ℕ) → at + k ≤ length p → partAt at k (p ++ q) ≡ partAt at k p
+part-left at k p q h = rw (drop-append-le at p q (omega arith)) (take-append-le k (drop at p) q (simp length-drop (omega arith)))
+
+-- a part of the front
+pub part-take : (at k m : ℕ) (s : List ℕ) → at + k ≤ m → m ≤ length s → partAt at k (take m s) ≡ partAt at k s
+part-take at k m s h l =
+    sym (part-left at k (take m s) (drop m s) (simp length-take (omega arith))) ∙ ap (partAt at k) (take-append-drop m s)
+
+-- a part of a part
+pub part-in : (at m k w : ℕ) (s : List ℕ) → k + w ≤ m → at + m ≤ length s → partAt (at + k) w s ≡ partAt k w (partAt at m s)
+part-in at m k w s h l = sym (part-take k w m (drop at s) h (simp length-drop (omega arith)) ∙ ap (take w) (drop-drop k at s))
+
+-- a part where it was put
+pub part-here : (at k : ℕ) (p x r : List ℕ) → length p ≡ at → length x ≡ k → partAt at k (p ++ (x ++ r)) ≡ x
+part-here at k p x r e l = ap (take k) (drop-at p (x ++ r) at e) ∙ take-at x r k l
+
+-- a byte of a part
+pub byte-in : (at m k : ℕ) (s : List ℕ) → k < m → getD s (at + k) 0 ≡ getD (partAt at m s) k 0
+byte-in at m k s h = sym (getD-take m (drop at s) k 0 h ∙ getD-drop at s k 0)
+
+-- Fields
+
+-- the number of a field that has its place
+pub number-is : (w at : ℕ) (s : List ℕ) → fieldWidth w ≡ true → at + w ≤ length s → numberAt w at s ≡ numberOf (partAt at w s)
+unfolding numberAt
+number-is w at s f h = rw (f, le-leb (at + w) (length s) h)
+
+-- a field of a part
+pub number-in : (at m k w : ℕ) (s : List ℕ) → fieldWidth w ≡ true → k + w ≤ m → at + m ≤ length s → numberAt w (at + k) s ≡ numberAt w k (partAt at m s)
+number-in at m k w s f h l =
+    number-is w (at + k) s f (omega arith)
+    ∙ ap numberOf (part-in at m k w s h l)
+    ∙ sym (number-is w k (partAt at m s) f (rw (length-part s at m l) h))
+
+-- a field reads back what was written into it
+pub number-here : (w at n : ℕ) (p r : List ℕ) → fieldWidth w ≡ true → length p ≡ at → n < 256 ^ w → numberAt w at (p ++ (bytesOf w n ++ r)) ≡ n
+number-here w at n p r f e h =
+    let l : length (p ++ (bytesOf w n ++ r)) ≡ at + (w + length r) = simp length-append (omega (arith, length-bytes w n)) in
+    number-is w at (p ++ (bytesOf w n ++ r)) f (omega arith)
+    ∙ ap numberOf (part-here at w p (bytesOf w n) r e (length-bytes w n))
+    ∙ number-of-bytes w n h
+
+-- Fronts
+
+-- a front of what already stands there changes nothing
+pub front-same : (at : ℕ) (s : List ℕ) → at ≤ length s → s ≡ front (take at s) s
+unfolding front
+front-same at s h = rw (length-take-le at s h) (sym (take-append-drop at s))
+
+-- a field written behind a front, and bytes behind it that stay
+module _ (p o : List ℕ) where
+  pub number-behind : (w at n : ℕ) → fieldWidth w ≡ true → length p ≡ at → at + w ≤ length o → withNumber w at n (front p o) ≡ front (p ++ bytesOf w n) o
+  unfolding withNumber
+  number-behind w at n f e h =
+      let l : length (front p o) ≡ length o = length-front p o (omega arith) in
+      rw (f, l, le-leb (at + w) (length o) h) (put-front at p (bytesOf w n) o e)
+
+  pub front-kept : (at k : ℕ) → length p ≡ at → at + k ≤ length o → front p o ≡ front (p ++ partAt at k o) o
+  unfolding front
+  front-kept at k e h =
+      let l : length (partAt at k o) ≡ k = simp (length-take, length-drop) (omega arith) in
+      rw (length-append p (partAt at k o), l, e, append-assoc p (partAt at k o), ← drop-drop k at o, take-append-drop k (drop at o))

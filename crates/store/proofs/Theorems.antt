@@ -1,0 +1,261 @@
+-- Appending and looking up, for every buffer, answer and day.
+use Prim.Native.Nat.{ℕ, zero, suc, _+_, _<_, _≤_}
+use mathlib.Core.Bool.{true, false}
+use mathlib.Core.List.{List, [], _∷_, _++_, append-assoc, append-nil}
+use mathlib.Core.Path.{_≡_, refl, sym, ap, _∙_}
+use native.Mathlib.Omega.{arith}
+use native.Mathlib.Nat.{add-zero, zero-add}
+use native.Mathlib.Decide.{decLt}
+use lib.Dec.{ltb}
+use lib.ListN.{length, getD}
+use borrow.Author.Tests.{le-ltb, eq-eqb, eqb-true}
+use Rattle.octets.proofs.Tests.{and-left, and-right, and-both}
+use Rattle.catalog.specs.declared.AnswerName.{AnswerName}
+use Rattle.store.specs.Layout.{narrow, answers, streamLength, entryOffset, entryLength, answerStart, answerAt, nameAt}
+use Rattle.store.specs.Check.{placeRight, placesRight, answerRight, namedFrom, storeNumber}
+use Rattle.store.specs.Read.{positionFrom, position, lookupNumber, lookupPart, streamPart}
+use Rattle.store.specs.Append.{nameOf, appendNumber, appendOut}
+use Rattle.store.proofs.PartLaws.{byte-in}
+use Rattle.store.proofs.StoreLaws.{unbroken, unbroken-zero, held, place-facts, place-built, names-at, answers-built, names-built, lookup-zero, lookup-missing, lookup-empty, found, position-of, lookup-of, stream-part}
+use Rattle.store.proofs.PositionLaws.{position-named, position-first, named-position}
+use Rattle.store.proofs.AppendLaws.{Accepted, accepted, answer-long, answer-begun, answer-allowed}
+use Rattle.store.proofs.AppendedLaws.{after-length, after-count, after-stream, offset-new, length-new, stream-new, offset-kept, length-kept, answer-kept, name-kept, answer-new, name-new}
+
+-- An accepted append
+
+module _ (a : List ℕ) (day : ℕ) (s : List ℕ) (taken : appendNumber narrow a day s ≡ 0) (small : day < 4294967296) where
+  abbrev n : ℕ
+  n = answers narrow s
+
+  abbrev after : List ℕ
+  after = appendOut narrow a day s
+
+  ok : Accepted a day s
+  ok = accepted a day s taken
+
+  places-grow : (k i at : ℕ) → i + k ≡ n → placesRight narrow k i at s ≡ true → placesRight narrow (suc k) i at after ≡ true
+  unfolding placesRight
+  places-grow zero i at q h =
+      let last : i ≡ n = omega arith in
+      let end : at ≡ streamLength narrow s = eqb-true _ _ h in
+      let off : entryOffset narrow i after ≡ at = ap (λ (j : ℕ). entryOffset narrow j after) last ∙ offset-new a day s taken small ∙ sym end in
+      let len : entryLength narrow i after ≡ length a = ap (λ (j : ℕ). entryLength narrow j after) last ∙ length-new a day s taken small in
+      let sum : at + entryLength narrow i after ≡ streamLength narrow after = omega (arith, after-stream a day s taken small) in
+      and-both (placeRight narrow i at after) _ (place-built i at after off (omega (arith, answer-long a day (ok .listed))) (omega arith)) (eq-eqb _ _ sum)
+  places-grow (suc k) i at q h =
+      let lt : i < n = omega arith in
+      let f = place-facts i at s (and-left (placeRight narrow i at s) _ h) in
+      let len = length-kept a day s taken small i lt in
+      let off : entryOffset narrow i after ≡ at = offset-kept a day s taken small i lt ∙ f .0 in
+      and-both (placeRight narrow i at after) _ (place-built i at after off (omega (arith, f .1)) (omega (arith, f .2, after-stream a day s taken small)))
+      (rw len (places-grow k (i + 1) (at + entryLength narrow i s) (omega arith) (and-right (placeRight narrow i at s) _ h)))
+
+  first-byte : (i : ℕ) (r : List ℕ) → 2 ≤ entryLength narrow i r → getD r (answerStart narrow i r) 0 ≡ getD (answerAt narrow i r) 0 0
+  unfolding answerAt
+  first-byte i r h = ap (λ (k : ℕ). getD r k 0) (sym (add-zero (answerStart narrow i r))) ∙ byte-in (answerStart narrow i r) (entryLength narrow i r) 0 r (omega arith)
+
+  right : (i : ℕ) → i < n + 1 → answerRight narrow i after ≡ true
+  unfolding answerRight
+  right i l =
+      elim (decLt i n) as (λ _. answerRight narrow i after ≡ true) [
+        | yes h ↦
+            let w = held s (ok .unbroken) i h in
+            let begins : getD after (answerStart narrow i after) 0 ≡ 0x76 =
+            first-byte i after (rw (length-kept a day s taken small i h) (w .long)) ∙ ap (λ (x : List ℕ). getD x 0 0) (answer-kept a day s taken small i h) ∙ sym (first-byte i s (w .long)) ∙ w .begins in
+            rw (begins, name-kept a day s taken small i h, w .allowed)
+        | no h ↦
+            let q : i ≡ n = omega arith in
+            let two : 2 ≤ entryLength narrow n after = rw (length-new a day s taken small) (answer-long a day (ok .listed)) in
+            let begins : getD after (answerStart narrow n after) 0 ≡ 0x76 =
+            first-byte n after two ∙ ap (λ (x : List ℕ). getD x 0 0) (answer-new a day s taken small) ∙ answer-begun a day (ok .listed) in
+            rw (q, begins, name-new a day s taken small, answer-allowed a day (ok .listed))
+      ]
+
+  position-kept : (k i : ℕ) (name : AnswerName) → i + k ≤ n → positionFrom narrow k i name after ≡ positionFrom narrow k i name s
+  unfolding positionFrom
+  position-kept zero i name h = refl
+  position-kept (suc k) i name h = rw (name-kept a day s taken small i (omega arith), position-kept k (i + 1) name (omega arith))
+
+  named-kept : (k : ℕ) (name : AnswerName) → k ≤ n → namedFrom narrow k 0 name after ≡ namedFrom narrow k 0 name s
+  named-kept k name h =
+      named-position k 0 name after ∙ ap (λ (p : ℕ). ltb p (0 + k)) (position-kept k 0 name (omega arith)) ∙ sym (named-position k 0 name s)
+
+  differ : (i : ℕ) → i < n + 1 → namedFrom narrow i 0 (nameAt narrow i after) after ≡ false
+  differ i l =
+      elim (decLt i n) as (λ _. namedFrom narrow i 0 (nameAt narrow i after) after ≡ false) [
+        | yes h ↦
+            rw (name-kept a day s taken small i h, named-kept i (nameAt narrow i s) (omega arith))
+            (rw zero-add at (names-at n 0 i s (unbroken s (ok .unbroken) .differ) h))
+        | no h ↦
+            let q : i ≡ n = omega arith in
+            rw (q, name-new a day s taken small, named-kept n (nameOf a day) (omega arith), named-position n 0 (nameOf a day) s)
+            (le-ltb (position narrow (nameOf a day) s) (0 + n) (omega (arith, ok .fresh)))
+      ]
+
+  -- leaves an unbroken store
+  pub append-unbroken : storeNumber narrow after ≡ 0
+  append-unbroken =
+      let c = after-count a day s taken small in
+      let t = after-stream a day s taken small in
+      let u = unbroken s (ok .unbroken) in
+      unbroken-zero after record {
+        header = omega (arith, after-length a day s taken small, u .header);
+        within = omega (arith, after-length a day s taken small, ok .room);
+        count = omega (arith, ok .count);
+        stream = omega (arith, ok .stream);
+        places = let e : answers narrow after ≡ suc n = omega arith in rw e (places-grow n 0 0 (omega arith) (u .places));
+        right = answers-built (answers narrow after) 0 after (λ j l. rw zero-add (right j (omega arith)));
+        differ = names-built (answers narrow after) 0 after (λ j l. rw zero-add (differ j (omega arith)));
+      }
+
+  -- in which that lookup gives exactly that answer
+  named-last : nameAt narrow n after ≡ nameOf a day
+  named-last = name-new a day s taken small
+
+  below-last : n < answers narrow after
+  below-last = omega (arith, after-count a day s taken small)
+
+  pub append-then-number : lookupNumber narrow (nameOf a day) after ≡ 0
+  append-then-number =
+      let p : position narrow (nameOf a day) after ≡ n = rw named-last at (position-of after append-unbroken n below-last) in
+      lookup-zero (nameOf a day) after append-unbroken (rw p below-last)
+
+  pub append-then-lookup : lookupPart narrow (nameOf a day) after ≡ a
+  append-then-lookup = (rw named-last at (lookup-of after append-unbroken n below-last)) ∙ answer-new a day s taken small
+
+  -- a name held before is held at the same place, and one not held before is not held, but for the new one
+  module _ (name : AnswerName) (other : name ≡ nameOf a day → ⊥) where
+    module _ (old : position narrow name s < n) where
+      was : nameAt narrow (position narrow name s) s ≡ name
+      was = position-named n 0 name s (omega arith)
+
+      same-position : position narrow name after ≡ position narrow name s
+      same-position =
+          let e : nameAt narrow (position narrow name s) after ≡ name = name-kept a day s taken small (position narrow name s) old ∙ was in
+          rw e at (position-of after append-unbroken (position narrow name s) (omega (arith, after-count a day s taken small)))
+
+      still : position narrow name after < answers narrow after
+      still = omega (arith, same-position, after-count a day s taken small)
+
+      old-number : lookupNumber narrow name after ≡ lookupNumber narrow name s
+      old-number = lookup-zero name after append-unbroken still ∙ sym (lookup-zero name s (ok .unbroken) old)
+
+      old-part : lookupPart narrow name after ≡ lookupPart narrow name s
+      old-part =
+          found name after (lookup-zero name after append-unbroken still) .part
+          ∙ ap (λ (i : ℕ). answerAt narrow i after) same-position
+          ∙ answer-kept a day s taken small (position narrow name s) old
+          ∙ sym (found name s (lookup-zero name s (ok .unbroken) old) .part)
+
+    module _ (none : n ≤ position narrow name s) where
+      absent : answers narrow after ≤ position narrow name after
+      absent =
+          let q : ℕ = position narrow name after in
+          elim (decLt q (answers narrow after)) as (λ _. answers narrow after ≤ q) [
+            | yes h ↦
+                let w : nameAt narrow q after ≡ name = position-named (answers narrow after) 0 name after (omega arith) in
+                elim (decLt q n) as (λ _. answers narrow after ≤ q) [
+                  | yes l ↦
+                      let v : nameAt narrow (0 + q) s ≡ name = ap (λ (i : ℕ). nameAt narrow i s) (zero-add q) ∙ sym (name-kept a day s taken small q l) ∙ w in
+                      absurd (omega (arith, position-first n 0 q name s l v))
+                  | no l ↦
+                      let e : n ≡ q = omega (arith, after-count a day s taken small) in
+                      absurd (other (sym (sym named-last ∙ ap (λ (i : ℕ). nameAt narrow i after) e ∙ w)))
+                ]
+            | no h ↦ omega arith
+          ]
+
+      new-number : lookupNumber narrow name after ≡ 6
+      new-number = lookup-missing name after append-unbroken absent
+
+      none-number : lookupNumber narrow name s ≡ 6
+      none-number = lookup-missing name s (ok .unbroken) none
+
+    -- every other lookup is as before
+    pub others-number : lookupNumber narrow name after ≡ lookupNumber narrow name s
+    others-number =
+        elim (decLt (position narrow name s) n) as (λ _. lookupNumber narrow name after ≡ lookupNumber narrow name s) [
+          | yes h ↦ old-number h
+          | no h ↦ new-number (omega arith) ∙ sym (none-number (omega arith))
+        ]
+
+    pub others-part : lookupPart narrow name after ≡ lookupPart narrow name s
+    others-part =
+        elim (decLt (position narrow name s) n) as (λ _. lookupPart narrow name after ≡ lookupPart narrow name s) [
+          | yes h ↦ old-part h
+          | no h ↦ lookup-empty name after (λ z. let e = new-number (omega arith) in omega arith) ∙ sym (lookup-empty name s (λ z. let e = none-number (omega arith) in omega arith))
+        ]
+
+  -- the stream grows by exactly the answer
+  pub stream-grows : streamPart narrow after ≡ streamPart narrow s ++ a
+  stream-grows = stream-part after append-unbroken ∙ stream-new a day s taken small ∙ ap (λ (x : List ℕ). x ++ a) (sym (stream-part s (ok .unbroken)))
+
+-- Any list of accepted appends
+
+pub record Given : Type 0 where
+  pub answer : List ℕ
+  pub day : ℕ
+
+abbrev pub nameGiven : Given → AnswerName
+nameGiven g = nameOf (g .answer) (g .day)
+
+-- from one store to another by these appends, none of them refused
+pub data Appends : List Given → List ℕ → List ℕ → Type 0 where
+  none : {s : List ℕ} → Appends [] s s
+  more : {g : Given} {gs : List Given} {s r : List ℕ} → appendNumber narrow (g .answer) (g .day) s ≡ 0 → g .day < 4294967296
+      → Appends gs (appendOut narrow (g .answer) (g .day) s) r → Appends (g ∷ gs) s r
+
+pub appends-unbroken : {gs : List Given} {s r : List ℕ} → Appends gs s r → storeNumber narrow s ≡ 0 → storeNumber narrow r ≡ 0
+appends-unbroken none z = z
+appends-unbroken (more {g} {gs} {s} {r} taken small rest) z = appends-unbroken rest (append-unbroken (g .answer) (g .day) s taken small)
+
+-- the count grows by the length of the list
+pub appends-count : {gs : List Given} {s r : List ℕ} → Appends gs s r → answers narrow r ≡ answers narrow s + length gs
+appends-count none = omega arith
+appends-count (more {g} {gs} {s} {r} taken small rest) = omega (arith, appends-count rest, after-count (g .answer) (g .day) s taken small)
+
+-- the answers held before stay
+pub appends-keep : {gs : List Given} {s r : List ℕ} → Appends gs s r → (i : ℕ) → i < answers narrow s → (nameAt narrow i r ≡ nameAt narrow i s) × (answerAt narrow i r ≡ answerAt narrow i s)
+appends-keep none i h = (refl, refl)
+appends-keep (more {g} {gs} {s} {r} taken small rest) i h =
+    let k = appends-keep rest i (omega (arith, after-count (g .answer) (g .day) s taken small)) in
+    (k .0 ∙ name-kept (g .answer) (g .day) s taken small i h, k .1 ∙ answer-kept (g .answer) (g .day) s taken small i h)
+
+-- the appended ones stand behind them in order
+pub appends-hold : {gs : List Given} {s r : List ℕ} → Appends gs s r → (i : ℕ) (g₀ : Given) → i < length gs
+    → (nameAt narrow (answers narrow s + i) r ≡ nameGiven (getD gs i g₀)) × (answerAt narrow (answers narrow s + i) r ≡ getD gs i g₀ .answer)
+appends-hold none i g₀ h = absurd (omega arith)
+appends-hold (more {g} {gs} {s} {r} taken small rest) zero g₀ h =
+    let k = appends-keep rest (answers narrow s) (omega (arith, after-count (g .answer) (g .day) s taken small)) in
+    rw add-zero (k .0 ∙ name-new (g .answer) (g .day) s taken small, k .1 ∙ answer-new (g .answer) (g .day) s taken small)
+appends-hold (more {g} {gs} {s} {r} taken small rest) (suc i) g₀ h =
+    let e : answers narrow s + suc i ≡ answers narrow (appendOut narrow (g .answer) (g .day) s) + i = omega (arith, after-count (g .answer) (g .day) s taken small) in
+    rw e (appends-hold rest i g₀ (omega arith))
+
+-- the stream is what the store had and the appended answers, back to back
+abbrev pub backToBack : List Given → List ℕ
+backToBack [] = []
+backToBack (g ∷ gs) = g .answer ++ backToBack gs
+
+pub appends-stream : {gs : List Given} {s r : List ℕ} → Appends gs s r → streamPart narrow r ≡ streamPart narrow s ++ backToBack gs
+appends-stream {gs} {s} none = sym (append-nil (streamPart narrow s))
+appends-stream (more {g} {gs} {s} {r} taken small rest) =
+    appends-stream rest
+    ∙ ap (λ (x : List ℕ). x ++ backToBack gs) (stream-grows (g .answer) (g .day) s taken small)
+    ∙ append-assoc (streamPart narrow s) (g .answer) (backToBack gs)
+
+-- a store built on an empty one reads back the list, in order
+pub record ReadsBack (gs : List Given) (r : List ℕ) : Type 0 where
+  pub whole : storeNumber narrow r ≡ 0
+  pub count : answers narrow r ≡ length gs
+  pub names : (i : ℕ) (g₀ : Given) → i < length gs → nameAt narrow i r ≡ nameGiven (getD gs i g₀)
+  pub held : (i : ℕ) (g₀ : Given) → i < length gs → answerAt narrow i r ≡ getD gs i g₀ .answer
+
+pub reads-back : {gs : List Given} {s r : List ℕ} → Appends gs s r → storeNumber narrow s ≡ 0 → answers narrow s ≡ 0 → ReadsBack gs r
+reads-back {gs} {s} {r} built z e =
+    record {
+      whole = appends-unbroken built z;
+      count = omega (arith, appends-count built);
+      names = λ i g₀ h. rw (e, zero-add) at (appends-hold built i g₀ h .0);
+      held = λ i g₀ h. rw (e, zero-add) at (appends-hold built i g₀ h .1);
+    }
