@@ -2,3 +2,4 @@
 pub mod State
 pub mod Services
 pub mod Call
+pub mod Sent

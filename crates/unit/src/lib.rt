@@ -1,4 +1,11 @@
 // The vehicle unit (document 01, The unit): its state, and what it does at every frame in every state.
+pub mod call;
+mod reply;
+mod services;
+pub mod state;
+mod transfer;
+mod wire;
+
 use catalog::AnswerName;
 use octets::Place;
 use split::SubMessage;

@@ -1,0 +1,115 @@
+-- Replies: what is written for each reaction, and that a reply has 6 to 260 bytes.
+use Prim.Native.Nat.{ℕ, _+_, _-_, _<_, _≤_}
+use mathlib.Core.Bool.{Bool, true, false, cond}
+use mathlib.Core.List.{List, [], _∷_}
+use mathlib.Core.Path.{_≡_, refl, sym, ap, _∙_}
+use native.Mathlib.Omega.{arith}
+use lib.Dec.{leb}
+use lib.ListN.{length, drop}
+use borrow.Author.Tests.{le-leb}
+use Rattle.octets.specs.Buffer.{partAt, front}
+use Rattle.octets.specs.declared.Place.{Place}
+use Rattle.octets.specs.declared.Written.{Written}
+use Rattle.frame.specs.declared.Addresses.{Addresses}
+use Rattle.frame.specs.declared.End.the-variants as ends
+use Rattle.frame.specs.Frame.{lab, frameOf, writeNumber, writeResult, writeOut}
+use Rattle.frame.proofs.WriteLaws.{length-frame, number-good}
+use Rattle.catalog.specs.declared.AnswerName.{AnswerName}
+use Rattle.split.specs.Split.{pieceNumber, subField, subFrame, subNumber, subResult, subOut}
+use Rattle.split.specs.Join.{carriedBy}
+use Rattle.split.specs.declared.Received.the-variants.{Whole}
+use Rattle.split.specs.declared.SubMessage.{SubMessage}
+use Rattle.split.proofs.SplitLaws.{field-some, length-field}
+use Rattle.unit.specs.declared.Reaction.{Reaction}
+use Rattle.unit.specs.declared.Reaction.the-variants.{Ignored, CommunicationStarted, SessionOpened, RateOffered, RateChanged, UploadGranted, AnswerSent, AnswerStopped, TransferExited, CommunicationStopped, Negative}
+use Rattle.unit.specs.Call.{replyData, replyTo}
+use Rattle.unit.specs.Sent.{pieceSent}
+
+-- some data goes out as a frame
+pub reply-is : (a : Addresses) (d : List ℕ) → 0 < length d → replyTo a d ≡ frameOf a ends.Tool d
+unfolding replyTo
+reply-is a [] h = absurd (omega arith)
+reply-is a (x ∷ d) h = refl
+
+-- A frame written in a buffer of 260 bytes
+module _ (d o : List ℕ) (some : 0 < length d) (most : length d ≤ 255) (room : 260 ≤ length o) where
+  number-fits : writeNumber (length d) (length o) ≡ 0
+  number-fits = sym (number-good [] d (length o) (omega arith) (omega arith) (omega arith))
+
+  pub sent-length : (w : Written) → w ≡ writeResult d (length o) → w .len ≡ length (replyTo lab d)
+  unfolding writeResult
+  sent-length w e = rw (e, number-fits, reply-is lab d some) (sym (length-frame lab ends.Tool d))
+
+  pub sent-out : (o′ : List ℕ) → o′ ≡ writeOut lab ends.Tool d o → o′ ≡ front (replyTo lab d) o
+  unfolding writeOut
+  sent-out o′ e = rw (e, number-fits, reply-is lab d some)
+
+-- A sub message written there
+module _ (trep k : ℕ) (d o : List ℕ) (such : pieceNumber (length d) k ≡ 0) (room : 260 ≤ length o) where
+  sub-fits : subNumber trep k d (length o) ≡ 0
+  unfolding subNumber
+  sub-fits =
+      let n : length (subField trep k d) ≤ 255 = length-field trep k d in
+      rw (such, le-leb (length (subField trep k d) + 5) (length o) (omega arith))
+
+  sub-some : 0 < length (subField trep k d)
+  sub-some = omega (arith, field-some trep k d)
+
+  sub-length : (w : Written) → w ≡ subResult trep k d (length o) → w .len ≡ length (replyTo lab (subField trep k d))
+  unfolding subResult
+  sub-length w e = rw (e, sub-fits, reply-is lab (subField trep k d) sub-some) (sym (length-frame lab ends.Tool (subField trep k d)))
+
+  sub-out : (o′ : List ℕ) → o′ ≡ subOut lab trep k d o → o′ ≡ front (replyTo lab (subField trep k d)) o
+  unfolding subOut subFrame
+  sub-out o′ e = rw (e, sub-fits, reply-is lab (subField trep k d) sub-some)
+
+-- the same with the data d taken from the answer that lies in the store
+module _ (trep k : ℕ) (place : Place) (s answer d o : List ℕ) (part : answer ≡ partAt (place .start) (place .len) s) (behind : d ≡ carriedBy Whole answer) (such : pieceNumber (length (drop 2 (partAt (place .start) (place .len) s))) k ≡ 0) (room : 260 ≤ length o) where
+  is-data : d ≡ drop 2 (partAt (place .start) (place .len) s)
+  unfolding carriedBy
+  is-data = behind ∙ ap (drop 2) part
+
+  pub answer-length : (w : Written) → w ≡ subResult trep k d (length o) → w .len ≡ length (replyTo lab (subField trep k (drop 2 (partAt (place .start) (place .len) s))))
+  answer-length w e = sub-length trep k _ o such room w (rw is-data at e)
+
+  pub answer-out : (o′ : List ℕ) → o′ ≡ subOut lab trep k d o → o′ ≡ front (replyTo lab (subField trep k (drop 2 (partAt (place .start) (place .len) s)))) o
+  answer-out o′ e = sub-out trep k _ o such room o′ (rw is-data at e)
+
+-- The reply to a reaction x, which is y
+module _ (s : List ℕ) (x y : Reaction) (is : x ≡ y) where
+  pub reply-length : (n : ℕ) → n ≡ length (replyTo lab (replyData s y)) → n ≡ length (replyTo lab (replyData s x))
+  reply-length n q = rw is q
+
+  pub reply-out : (o o′ : List ℕ) → o′ ≡ front (replyTo lab (replyData s y)) o → o′ ≡ front (replyTo lab (replyData s x)) o
+  reply-out o o′ q = rw is q
+
+pub piece-there : (s : List ℕ) (x : Reaction) (name : AnswerName) (k : SubMessage) (place : Place) → x ≡ AnswerSent name k place → pieceSent s x ≡ 0 → pieceNumber (length (drop 2 (partAt (place .start) (place .len) s))) (k .0) ≡ 0
+unfolding pieceSent
+piece-there s x name k place e z = rw e at z
+
+-- replyData is empty for silence only, and never longer than a frame's data
+pub data-most : (s : List ℕ) (x : Reaction) → length (replyData s x) ≤ 255
+unfolding replyData
+data-most s Ignored = omega arith
+data-most s CommunicationStarted = omega arith
+data-most s SessionOpened = omega arith
+data-most s (RateOffered r) = omega arith
+data-most s RateChanged = omega arith
+data-most s UploadGranted = omega arith
+data-most s (AnswerSent name k place) = length-field (name .trep) (k .0) (drop 2 (partAt (place .start) (place .len) s))
+data-most s AnswerStopped = omega arith
+data-most s TransferExited = omega arith
+data-most s CommunicationStopped = omega arith
+data-most s (Negative sid code) = omega arith
+
+-- "a frame has 6 to 260 bytes": a reply is silence, or that long
+pub reply-most : (a : Addresses) (s : List ℕ) (x : Reaction) → length (replyTo a (replyData s x)) ≤ 260
+unfolding replyTo
+reply-most a s x = go (replyData s x) (data-most s x)
+  where
+    go : (d : List ℕ) → length d ≤ 255 → length (replyTo a d) ≤ 260
+    go [] h = omega arith
+    go (y ∷ d) h = omega (arith, length-frame a ends.Tool (y ∷ d))
+
+pub reply-some : (a : Addresses) (d : List ℕ) → 0 < length d → 6 ≤ length (replyTo a d)
+reply-some a d h = rw (reply-is a d h) (omega (arith, length-frame a ends.Tool d))

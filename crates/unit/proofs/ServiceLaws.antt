@@ -1,0 +1,144 @@
+-- The services: requests that are one fixed byte string, and transfer data, from the tests of the code.
+use Prim.Native.Nat.{ℕ, suc, _+_, _-_, _<_, _≤_}
+use mathlib.Core.Bool.{Bool, true, false, not, cond, _&&_}
+use mathlib.Core.List.{List, [], _∷_}
+use mathlib.Core.Path.{_≡_, refl, sym, ap, _∙_}
+use native.Mathlib.Omega.{arith}
+use lib.Dec.{eqb, leb}
+use lib.ListN.{length, getD}
+use borrow.Author.Tests.{lt-ltb, le-ltb, le-leb, lt-leb, eq-eqb, ne-eqb}
+use Rattle.octets.specs.Order.{unless}
+use Rattle.octets.specs.Buffer.{sameBytes}
+use Rattle.octets.specs.BigEndian.{numberOf, numberAt}
+use Rattle.octets.specs.declared.Place.{Place}
+use Rattle.octets.proofs.Tests.{flag-nt, flag-nf}
+use Rattle.octets.proofs.NumberLaws.{read-two}
+use Rattle.catalog.specs.Table.{knownTo, isActivities}
+use Rattle.catalog.specs.Name.{dayNamed}
+use Rattle.catalog.specs.declared.AnswerName.{AnswerName}
+use Rattle.split.specs.Split.{countOf}
+use Rattle.split.specs.Codes.{sub, acknowledgeOf, repeatOf, stopCode}
+use Rattle.split.specs.declared.SubMessage.{SubMessage}
+use Rattle.split.specs.declared.AckCode.{AckCode}
+use Rattle.store.specs.Layout.{narrow}
+use Rattle.store.specs.Check.{storeNumber}
+use Rattle.store.specs.Read.{findPlace}
+use Rattle.store.proofs.ReadLaws.{place-checked}
+use Rattle.unit.specs.declared.Phase.{Phase}
+use Rattle.unit.specs.declared.Phase.the-variants.{Sending}
+use Rattle.unit.specs.declared.Reaction.{Reaction}
+use Rattle.unit.specs.declared.Reaction.the-variants.{AnswerSent, AnswerStopped, Negative}
+use Rattle.unit.specs.State.{isGranted}
+use Rattle.unit.specs.Services.{requestName, answerFrom, onTransfer, onCode}
+use Rattle.unit.specs.Sent.{onSendingAt}
+
+-- A request that is its SID alone: the comparison with the fixed string is that of the length
+alone : (sid : ℕ) (d : List ℕ) → getD d 0 0 ≡ sid → sameBytes d (sid ∷ []) ≡ eqb (length d) 1
+alone sid [] e = refl
+alone sid (x ∷ []) e = rw (eq-eqb x sid e)
+alone sid (x ∷ y ∷ d) e = rw (eq-eqb x sid e, ne-eqb (length (x ∷ y ∷ d)) 1 (omega arith))
+
+-- and so it is for the session request, whose second byte is its sub function
+pair : (d : List ℕ) → getD d 0 0 ≡ 0x10 → getD d 1 0 ≡ 0x81 → sameBytes d (0x10 ∷ 0x81 ∷ []) ≡ eqb (length d) 2
+pair [] e f = refl
+pair (x ∷ []) e f = absurd (omega arith)
+pair (x ∷ y ∷ []) e f = rw (eq-eqb x 0x10 e, eq-eqb y 0x81 f)
+pair (x ∷ y ∷ z ∷ d) e f = rw (eq-eqb x 0x10 e, eq-eqb y 0x81 f, ne-eqb (length (x ∷ y ∷ z ∷ d)) 2 (omega arith))
+
+module _ (d : List ℕ) (r : Bool) where
+  pub alone-t : (sid : ℕ) → getD d 0 0 ≡ sid → r ≡ sameBytes d (sid ∷ []) → not r ≡ false → eqb (length d) 1 ≡ true
+  alone-t sid e q t = sym (alone sid d e) ∙ flag-nt q t
+
+  pub alone-f : (sid : ℕ) → getD d 0 0 ≡ sid → r ≡ sameBytes d (sid ∷ []) → not r ≡ true → eqb (length d) 1 ≡ false
+  alone-f sid e q t = sym (alone sid d e) ∙ flag-nf q t
+
+  pub pair-t : getD d 0 0 ≡ 0x10 → getD d 1 0 ≡ 0x81 → r ≡ sameBytes d (0x10 ∷ 0x81 ∷ []) → not r ≡ false → eqb (length d) 2 ≡ true
+  pair-t e f q t = sym (pair d e f) ∙ flag-nt q t
+
+  pub pair-f : getD d 0 0 ≡ 0x10 → getD d 1 0 ≡ 0x81 → r ≡ sameBytes d (0x10 ∷ 0x81 ∷ []) → not r ≡ true → eqb (length d) 2 ≡ false
+  pair-f e f q t = sym (pair d e f) ∙ flag-nf q t
+
+-- The name in a request: t is the TRTP read, a whether it is one of activities
+module _ (d : List ℕ) (t : ℕ) (a : Bool) (read : t ≡ getD d 1 0) (asked : a ≡ isActivities t) where
+  pub name-with-day : (day : ℕ) → a ≡ true → day ≡ numberAt 4 2 d → _≡_ {A = AnswerName} (record { trep = t; day = day }) (requestName d)
+  unfolding requestName
+  name-with-day day h e = rw (← read, ← asked, h, e)
+
+  pub name-alone : a ≡ false → _≡_ {A = AnswerName} (record { trep = t; day = 0 }) (requestName d)
+  unfolding requestName
+  name-alone h = rw (← read, ← asked, h)
+
+-- The returns of transfer data; n is the length that the TRTP asks for
+module _ (kind : ℕ) (phase : Phase) (s d : List ℕ) where
+  pub transfer-short : length d < 2 → Negative 0x36 0x13 ≡ onTransfer kind phase s d
+  unfolding onTransfer
+  transfer-short h = rw (lt-leb 2 (length d) h)
+
+  module _ (two : 2 ≤ length d) (k : Bool) (known : k ≡ knownTo kind (getD d 1 0)) where
+    pub transfer-unknown : not k ≡ true → Negative 0x36 0x12 ≡ onTransfer kind phase s d
+    unfolding onTransfer
+    transfer-unknown h = rw (le-leb 2 (length d) two, flag-nf known h)
+
+    module _ (yes : not k ≡ false) (n : ℕ) (asked : n ≡ cond (isActivities (getD d 1 0)) 6 2) where
+      pub transfer-long : (length d ≡ n → ⊥) → Negative 0x36 0x13 ≡ onTransfer kind phase s d
+      unfolding onTransfer
+      transfer-long h = rw (le-leb 2 (length d) two, flag-nt known yes, ← asked, ne-eqb (length d) n h)
+
+      module _ (exact : length d ≡ n) (name : AnswerName) (named : name ≡ requestName d) (m : Bool) (day : m ≡ dayNamed name) where
+        pub transfer-day : not m ≡ true → Negative 0x36 0x31 ≡ onTransfer kind phase s d
+        unfolding onTransfer
+        transfer-day h = rw (le-leb 2 (length d) two, flag-nt known yes, ← asked, eq-eqb (length d) n exact, ← named, flag-nf day h)
+
+        module _ (may : not m ≡ false) (g : Bool) (granted : g ≡ isGranted phase) where
+          pub transfer-turn : not g ≡ true → Negative 0x36 0x22 ≡ onTransfer kind phase s d
+          unfolding onTransfer
+          transfer-turn h = rw (le-leb 2 (length d) two, flag-nt known yes, ← asked, eq-eqb (length d) n exact, ← named, flag-nt day may, flag-nf granted h)
+
+          pub transfer-answer : (place : Place) (r : Reaction) → not g ≡ false → storeNumber narrow s ≡ 0 → place ≡ findPlace narrow name s → r ≡ answerFrom name (sub 1) place → r ≡ onTransfer kind phase s d
+          unfolding onTransfer
+          transfer-answer place r h z f q =
+              rw (le-leb 2 (length d) two, flag-nt known yes, ← asked, eq-eqb (length d) n exact, ← named, flag-nt day may, flag-nt granted h, ← place-checked s name 0 (sym z) place refl f) q
+
+-- two codes that were compared
+code-differs : (x : ℕ) (r code : AckCode) → (x ≡ r .0 → ⊥) → r ≡ code → eqb x (code .0) ≡ false
+code-differs x r code n q = ne-eqb x (code .0) (λ e. n (e ∙ ap (λ (k : AckCode). k .0) (sym q)))
+
+code-same : (x : ℕ) (r code : AckCode) → x ≡ r .0 → r ≡ code → eqb x (code .0) ≡ true
+code-same x r code e q = eq-eqb x (code .0) (e ∙ ap (λ (k : AckCode). k .0) q)
+
+-- The returns of a code; a, b and s are the codes that `split::codes` gave
+module _ (name : AnswerName) (last : SubMessage) (place : Place) (c : ℕ) (a : AckCode) (again : a ≡ repeatOf last) where
+  pub code-repeat : c ≡ a .0 → AnswerSent name last place ≡ onCode name last place c
+  unfolding onCode
+  code-repeat h = rw (code-same c a (repeatOf last) h again)
+
+  module _ (not-again : c ≡ a .0 → ⊥) (b : AckCode) (next : b ≡ acknowledgeOf last) where
+    pub code-next : (r : Reaction) → c ≡ b .0 → r ≡ unless (leb (last .0 + 1) (countOf (place .len - 2))) (Negative 0x83 0x12) (AnswerSent name (sub (last .0 + 1)) place) → r ≡ onCode name last place c
+    unfolding onCode
+    code-next r h q = rw (code-differs c a (repeatOf last) not-again again, code-same c b (acknowledgeOf last) h next) q
+
+    module _ (not-next : c ≡ b .0 → ⊥) (s : AckCode) (stop : s ≡ stopCode) where
+      pub code-stop : c ≡ s .0 → AnswerStopped ≡ onCode name last place c
+      unfolding onCode
+      code-stop h = rw (code-differs c a (repeatOf last) not-again again, code-differs c b (acknowledgeOf last) not-next next, code-same c s stopCode h stop)
+
+      pub code-other : (c ≡ s .0 → ⊥) → Negative 0x83 0x22 ≡ onCode name last place c
+      unfolding onCode
+      code-other h = rw (code-differs c a (repeatOf last) not-again again, code-differs c b (acknowledgeOf last) not-next next, code-differs c s stopCode h stop)
+
+-- The sub message behind the last one; n is the count
+module _ (name : AnswerName) (last : ℕ) (place : Place) (n : ℕ) (count : n ≡ countOf (place .len - 2)) where
+  pub next-none : n < last + 1 → Negative 0x83 0x12 ≡ unless (leb (last + 1) (countOf (place .len - 2))) (Negative 0x83 0x12) (AnswerSent name (sub (last + 1)) place)
+  next-none h = rw (← count, lt-leb (last + 1) n h)
+
+  pub next-such : last + 1 ≤ n → AnswerSent name (sub (last + 1)) place ≡ unless (leb (last + 1) (countOf (place .len - 2))) (Negative 0x83 0x12) (AnswerSent name (sub (last + 1)) place)
+  next-such h = rw (← count, le-leb (last + 1) n h)
+
+-- a code is heard by the answer that is being sent
+pub sending-code : (phase : Phase) (name : AnswerName) (last : SubMessage) (place : Place) (r : Reaction) (c : ℕ) → phase ≡ Sending name last → r ≡ onCode name last place c → r ≡ onSendingAt phase place c
+unfolding onSendingAt
+sending-code phase name last place r c e q = rw e q
+
+-- the code of an acknowledgement stands in its third and fourth byte
+pub code-read : (phase : Phase) (place : Place) (d : List ℕ) (r : Reaction) (c : ℕ) → length d ≡ 4 → c ≡ numberOf (getD d 2 0 ∷ getD d 3 0 ∷ []) → r ≡ onSendingAt phase place c → r ≡ onSendingAt phase place (numberAt 2 2 d)
+code-read phase place d r c n e q = q ∙ ap (onSendingAt phase place) (read-two 2 d c 2 (omega arith) (omega arith) refl e)

@@ -1,0 +1,11 @@
+-- Each return is the first check that fails.
+use Rattle.octets.proofs.Tests.{cond-t, cond-f, flag-nt, flag-nf}
+use borrow.Author.Tests.{le-leb, lt-leb}
+use borrow.Author.Needs.{needs}
+use Rattle.unit.proofs.call.number.Statement.{statement}
+use Rattle.unit.proofs.call.number.Tie as tie
+
+ruleset all = (cond-t, cond-f, flag-nt, flag-nf, le-leb, lt-leb)
+
+pub number-spec : {M : Type 1} → statement M
+number-spec = tie.close (tie.spec (λ c κs. search needs) (λ c. search all) (λ c. search all) (λ c. search all))
