@@ -1,3 +1,4 @@
 -- Document 01, Record arrays.
 pub mod Arrays
+pub mod View
 pub mod Written

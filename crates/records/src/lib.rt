@@ -1,4 +1,6 @@
 // Record arrays of generation 2 (document 01, Record arrays): the arrays and records of an answer's data, by number.
+pub mod view;
+
 use octets::Counted;
 use octets::Place;
 use octets::numbers::NO_SUCH;
@@ -8,6 +10,7 @@ ghost use mathlib.Core.List.{[], _∷_};
 ghost use Prim.Native.Nat.{_*_, _≤_};
 ghost use lib.ListN.{length};
 ghost use Rattle.octets.specs.BigEndian.{numberOf};
+ghost use Rattle.octets.specs.Buffer.{partAt};
 ghost use Rattle.records.specs.Arrays.{foundAt, headerOf, arrayCount, arrayAt, arrayRecords, recordIn, recordPlace, recordOf};
 
 // One array of a body: its header (kind is the record type) and the place of its records in the body. Refused, all zero but the number.
@@ -140,11 +143,10 @@ pub fn array_at(body: &[u8], array: usize) -> Array
     found_at(body, header_of(body, array))
 }
 
-// The records of an array, as that part of the body; empty where `array_at` refuses.
-pub fn array_records(body: &[u8], array: usize) -> &[u8]
-    ensures { λ r. ⌜ now r ≡ arrayRecords array (now (body .entry)) ⌝ }
+// The records of an array that was found in the body, as that part of it.
+pub(crate) fn records_of(body: &[u8], found: Array) -> &[u8]
+    ensures { λ r. ⌜ now r ≡ partAt (found .start) (found .len) (now (body .entry)) ⌝ }
 {
-    let found = array_at(body, array);
     octets::buffer::part(
         body,
         Place {
@@ -153,6 +155,13 @@ pub fn array_records(body: &[u8], array: usize) -> &[u8]
             len: found.len,
         },
     )
+}
+
+// The records of an array, as that part of the body; empty where `array_at` refuses.
+pub fn array_records(body: &[u8], array: usize) -> &[u8]
+    ensures { λ r. ⌜ now r ≡ arrayRecords array (now (body .entry)) ⌝ }
+{
+    records_of(body, array_at(body, array))
 }
 
 // Where a record lies in an array's own slice of `records_len` bytes: 10 where there is no such record, and for every one where the slice
