@@ -1,6 +1,6 @@
 -- What an event means to a waiting tool, and what follows from it.
 use Prim.Native.Nat.{ℕ, _+_}
-use mathlib.Core.Bool.{Bool, cond, _&&_}
+use mathlib.Core.Bool.{Bool, true, false, cond, _&&_}
 use mathlib.Core.List.{List, [], _∷_}
 use lib.ListN.{length, getD, drop}
 use lib.Dec.{eqb, leb}
@@ -71,6 +71,18 @@ unfoldable pub arrivalBytes : Addresses → ToolState → List ℕ → List ℕ
 arrivalBytes a t b = newBytes t (receivedBy t (dataOf a ends.Tool b)) (dataOf a ends.Tool b)
 
 -- What follows
+
+-- its bytes go into the room
+unfoldable pub takes : Meaning → Bool
+takes Ignored = false
+takes FailedWait = false
+takes Confirmed = false
+takes WholeAnswer = true
+takes SubMessageTaken = true
+takes LastTaken = true
+takes NoRoomForAnswer = false
+takes NoRoomForSubMessage = false
+takes (RefusedBy code) = false
 
 -- "An ended state keeps all as at its last wait but outcome and held length"
 abbrev pub ended : ToolState → Outcome → ℕ → ToolState

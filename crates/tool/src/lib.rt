@@ -2,6 +2,13 @@
 use catalog::AnswerName;
 use split::SubMessage;
 
+pub mod after;
+pub mod call;
+pub mod event;
+pub mod room;
+pub mod sent;
+pub mod state;
+
 // "One request at a time: start, session, upload, exit, stop or a transfer."
 pub enum Request {
     Start,

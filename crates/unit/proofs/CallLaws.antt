@@ -1,20 +1,18 @@
 -- The call: which service is asked for, and what it hands back, from the tests of the code.
-use Prim.Native.Nat.{ℕ, _+_, _-_, _<_, _≤_}
-use mathlib.Core.Bool.{Bool, true, false, cond, _&&_}
+use Prim.Native.Nat.{ℕ, _-_, _<_, _≤_}
+use mathlib.Core.Bool.{Bool, true, false, cond}
 use mathlib.Core.List.{List, [], _∷_}
 use mathlib.Core.Path.{_≡_, refl, sym, ap, _∙_}
 use native.Mathlib.Omega.{arith}
-use lib.Dec.{eqb, ltb, leb}
-use lib.ListN.{length, getD, take, drop}
-use borrow.Author.Tests.{lt-ltb, le-ltb, le-leb, lt-leb, eq-eqb, ne-eqb, leb-true, eqb-true}
-use Rattle.octets.specs.Order.{unless}
+use lib.Dec.{eqb, leb}
+use lib.ListN.{length, getD}
+use borrow.Author.Tests.{lt-ltb, le-ltb, eq-eqb, ne-eqb, leb-true, eqb-true}
 use Rattle.octets.specs.Buffer.{partAt, sameBytes, front}
-use Rattle.octets.specs.Sum.{checksumOf}
 use Rattle.octets.specs.declared.Place.{Place}
 use Rattle.octets.proofs.Tests.{and-left, and-right}
 use Rattle.frame.specs.declared.End.the-variants as ends
 use Rattle.frame.specs.Frame.{lab, isStart, startRight, addressed, judged, dataPlace, dataOf}
-use Rattle.frame.proofs.CheckLaws.{Good, good, good-sum, count-start}
+use Rattle.frame.proofs.CheckLaws.{good, good-sum, count-start}
 use Rattle.catalog.specs.declared.AnswerName.{AnswerName}
 use Rattle.split.specs.Split.{isSplit}
 use Rattle.split.specs.declared.SubMessage.{SubMessage}
@@ -26,9 +24,9 @@ use Rattle.unit.specs.declared.UnitState.{UnitState}
 use Rattle.unit.specs.declared.UnitReply.{UnitReply}
 use Rattle.unit.specs.declared.Reaction.{Reaction}
 use Rattle.unit.specs.declared.Reaction.the-variants.{Ignored, CommunicationStarted, AnswerSent}
-use Rattle.unit.specs.State.{isClosed, possible}
+use Rattle.unit.specs.State.{isClosed}
 use Rattle.unit.specs.Call.{onData, reactionTo, withPhase, stateAfter, replyData, replyTo, unitNumber, unitState, unitReply, unitResult, unitOut}
-use Rattle.unit.specs.Sent.{placeSent, possibleAt, pieceSent}
+use Rattle.unit.specs.Sent.{placeSent, possibleAt, numberBehind, pieceSent}
 use Rattle.unit.proofs.StateLaws.{possible-sent}
 use Rattle.unit.proofs.SentLaws.{sends-what-is}
 
@@ -119,15 +117,16 @@ pub state-sent : (u v : UnitState) (x : Reaction) (name : AnswerName) (k : SubMe
 unfolding stateAfter
 state-sent u v x name k place p e f q = rw (e, ← f) q
 
--- The number of the call. k is what the check of the store gave, n the number behind it
+-- A call that is not refused; n is its number behind that of the store
 
 accepted-tests : (p r : Bool) (h : ℕ) → cond p (cond r h 4) 11 ≡ 0 → (p ≡ true) × (r ≡ true) × (h ≡ 0)
 accepted-tests true true h e = (refl, refl, e)
 accepted-tests true false h e = absurd (omega arith)
 accepted-tests false r h e = absurd (omega arith)
 
-module _ (u : UnitState) (place heard : Place) (room n : ℕ) (given : n ≡ unless (possibleAt u place) 11 (unless (leb 260 room) 4 (heard .number))) (zero : n ≡ 0) where
+module _ (u : UnitState) (place heard : Place) (room n : ℕ) (given : n ≡ numberBehind u place room (heard .number)) (zero : n ≡ 0) where
   accepted : (possibleAt u place ≡ true) × (leb 260 room ≡ true) × (heard .number ≡ 0)
+  unfolding numberBehind
   accepted = accepted-tests (possibleAt u place) (leb 260 room) (heard .number) (sym given ∙ zero)
 
   pub accepted-room : 260 ≤ room
@@ -164,23 +163,23 @@ module _ (s : List ℕ) (u : UnitState) (b : List ℕ) (k : ℕ) (check : k ≡ 
 
   -- n is the number behind that of the store
   module _ (unbroken : k ≡ 0) (place heard : Place) (sent : place ≡ placeSent s (u .phase)) (located : heard ≡ dataPlace lab ends.Unit b) (n : ℕ) where
-    number-checked : (room : ℕ) → n ≡ unless (possibleAt u place) 11 (unless (leb 260 room) 4 (heard .number)) → n ≡ unitNumber lab s room u b
-    unfolding unitNumber dataPlace
+    number-checked : (room : ℕ) → n ≡ numberBehind u place room (heard .number) → n ≡ unitNumber lab s room u b
+    unfolding unitNumber dataPlace numberBehind
     number-checked room e =
         let j : heard .number ≡ judged lab ends.Unit b = ap (λ (q : Place). q .number) located in
         rw (← check, unbroken, ← possible-sent s u place (possibleAt u place) sent refl, ← j) e
 
-    pub result-refused : (room : ℕ) → n ≡ unless (possibleAt u place) 11 (unless (leb 260 room) 4 (heard .number)) → (n ≡ 0 → ⊥) → _≡_ {A = UnitReply} (record { number = n; state = u; len = 0 }) (unitResult lab s room u b)
+    pub result-refused : (room : ℕ) → n ≡ numberBehind u place room (heard .number) → (n ≡ 0 → ⊥) → _≡_ {A = UnitReply} (record { number = n; state = u; len = 0 }) (unitResult lab s room u b)
     result-refused room e z = refused s u b n room (number-checked room e) z
 
-    pub out-refused : (o : List ℕ) → n ≡ unless (possibleAt u place) 11 (unless (leb 260 (length o)) 4 (heard .number)) → (n ≡ 0 → ⊥) → o ≡ unitOut lab s u b o
+    pub out-refused : (o : List ℕ) → n ≡ numberBehind u place (length o) (heard .number) → (n ≡ 0 → ⊥) → o ≡ unitOut lab s u b o
     out-refused o e z = unchanged s u b n o (number-checked (length o) e) z
 
     module _ (x : Reaction) (reacts : x ≡ reactionTo lab s u b) where
-      pub result-done : (room : ℕ) (v : UnitState) (l : ℕ) → n ≡ unless (possibleAt u place) 11 (unless (leb 260 room) 4 (heard .number)) → n ≡ 0 → v ≡ stateAfter u x → l ≡ length (replyTo lab (replyData s x)) → _≡_ {A = UnitReply} (record { number = 0; state = v; len = l }) (unitResult lab s room u b)
+      pub result-done : (room : ℕ) (v : UnitState) (l : ℕ) → n ≡ numberBehind u place room (heard .number) → n ≡ 0 → v ≡ stateAfter u x → l ≡ length (replyTo lab (replyData s x)) → _≡_ {A = UnitReply} (record { number = 0; state = v; len = l }) (unitResult lab s room u b)
       unfolding unitResult unitState unitReply
       result-done room v l e z f g = rw (← number-checked room e, z, ← reacts, f, g)
 
-      pub out-done : (o o′ : List ℕ) → n ≡ unless (possibleAt u place) 11 (unless (leb 260 (length o)) 4 (heard .number)) → n ≡ 0 → o′ ≡ front (replyTo lab (replyData s x)) o → o′ ≡ unitOut lab s u b o
+      pub out-done : (o o′ : List ℕ) → n ≡ numberBehind u place (length o) (heard .number) → n ≡ 0 → o′ ≡ front (replyTo lab (replyData s x)) o → o′ ≡ unitOut lab s u b o
       unfolding unitOut unitReply
       out-done o o′ e z f = rw (← number-checked (length o) e, z, ← reacts) f

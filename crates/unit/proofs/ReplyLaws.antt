@@ -1,10 +1,10 @@
 -- Replies: what is written for each reaction, and that a reply has 6 to 260 bytes.
-use Prim.Native.Nat.{ℕ, _+_, _-_, _<_, _≤_}
+use Prim.Native.Nat.{ℕ, _+_, _<_, _≤_}
 use mathlib.Core.Bool.{Bool, true, false, cond}
 use mathlib.Core.List.{List, [], _∷_}
 use mathlib.Core.Path.{_≡_, refl, sym, ap, _∙_}
 use native.Mathlib.Omega.{arith}
-use lib.Dec.{leb}
+use lib.Dec.{eqb}
 use lib.ListN.{length, drop}
 use borrow.Author.Tests.{le-leb}
 use Rattle.octets.specs.Buffer.{partAt, front}
@@ -20,9 +20,10 @@ use Rattle.split.specs.Join.{carriedBy}
 use Rattle.split.specs.declared.Received.the-variants.{Whole}
 use Rattle.split.specs.declared.SubMessage.{SubMessage}
 use Rattle.split.proofs.SplitLaws.{field-some, length-field}
+use Rattle.unit.specs.declared.UnitState.{UnitState}
 use Rattle.unit.specs.declared.Reaction.{Reaction}
 use Rattle.unit.specs.declared.Reaction.the-variants.{Ignored, CommunicationStarted, SessionOpened, RateOffered, RateChanged, UploadGranted, AnswerSent, AnswerStopped, TransferExited, CommunicationStopped, Negative}
-use Rattle.unit.specs.Call.{replyData, replyTo}
+use Rattle.unit.specs.Call.{reactionTo, replyData, replyTo, unitNumber, unitReply}
 use Rattle.unit.specs.Sent.{pieceSent}
 
 -- some data goes out as a frame
@@ -87,8 +88,9 @@ pub piece-there : (s : List ℕ) (x : Reaction) (name : AnswerName) (k : SubMess
 unfolding pieceSent
 piece-there s x name k place e z = rw e at z
 
--- replyData is empty for silence only, and never longer than a frame's data
-pub data-most : (s : List ℕ) (x : Reaction) → length (replyData s x) ≤ 255
+-- "a frame has 6 to 260 bytes": so has every reply but silence
+
+data-most : (s : List ℕ) (x : Reaction) → length (replyData s x) ≤ 255
 unfolding replyData
 data-most s Ignored = omega arith
 data-most s CommunicationStarted = omega arith
@@ -102,14 +104,20 @@ data-most s TransferExited = omega arith
 data-most s CommunicationStopped = omega arith
 data-most s (Negative sid code) = omega arith
 
--- "a frame has 6 to 260 bytes": a reply is silence, or that long
-pub reply-most : (a : Addresses) (s : List ℕ) (x : Reaction) → length (replyTo a (replyData s x)) ≤ 260
-unfolding replyTo
-reply-most a s x = go (replyData s x) (data-most s x)
-  where
-    go : (d : List ℕ) → length d ≤ 255 → length (replyTo a d) ≤ 260
-    go [] h = omega arith
-    go (y ∷ d) h = omega (arith, length-frame a ends.Tool (y ∷ d))
+module _ (a : Addresses) where
+  pub reply-some : (d : List ℕ) → 0 < length d → 6 ≤ length (replyTo a d)
+  reply-some d h = rw (reply-is a d h) (omega (arith, length-frame a ends.Tool d))
 
-pub reply-some : (a : Addresses) (d : List ℕ) → 0 < length d → 6 ≤ length (replyTo a d)
-reply-some a d h = rw (reply-is a d h) (omega (arith, length-frame a ends.Tool d))
+  frame-most : (d : List ℕ) → length d ≤ 255 → length (replyTo a d) ≤ 260
+  unfolding replyTo
+  frame-most [] h = omega arith
+  frame-most (y ∷ d) h = omega (arith, length-frame a ends.Tool (y ∷ d))
+
+  -- the reply of a call fits the buffer that it asks for
+  pub reply-fits : (s : List ℕ) (room : ℕ) (u : UnitState) (b : List ℕ) → length (unitReply a s room u b) ≤ 260
+  unfolding unitReply
+  reply-fits s room u b = go (eqb (unitNumber a s room u b) 0)
+    where
+      go : (t : Bool) → length (cond t (replyTo a (replyData s (reactionTo a s u b))) []) ≤ 260
+      go true = frame-most (replyData s (reactionTo a s u b)) (data-most s (reactionTo a s u b))
+      go false = omega arith

@@ -1,8 +1,8 @@
 -- Acknowledge, from the place of the answer that is being sent; and every sub message that a reaction sends is there.
-use Prim.Native.Nat.{ℕ, _+_, _-_, _<_, _≤_}
+use Prim.Native.Nat.{ℕ, _+_, _-_, _≤_}
 use mathlib.Core.Bool.{Bool, true, false, cond, not, _&&_, _||_}
-use mathlib.Core.List.{List, []}
-use mathlib.Core.Path.{_≡_, refl, sym, ap, _∙_}
+use mathlib.Core.List.{List}
+use mathlib.Core.Path.{_≡_, refl, ap, _∙_}
 use native.Mathlib.Omega.{arith}
 use native.Mathlib.Decide.{decLe}
 use lib.Dec.{eqb, ltb, leb}
@@ -38,7 +38,7 @@ use Rattle.unit.specs.Services.{onSession, onRateOffer, onRateChange, on
 use Rattle.unit.specs.Call.{onData, reactionTo}
 use Rattle.unit.specs.Sent.{placeSent, onSendingAt, onAcknowledgeAt, pieceSent}
 use Rattle.unit.proofs.StoreFacts.{InStore, found-in}
-use Rattle.unit.proofs.StateLaws.{Sendable, sendable-says}
+use Rattle.unit.proofs.StateLaws.{sendable-says}
 
 -- Acknowledge
 

@@ -1,6 +1,6 @@
 -- The state: sub messages of the answer at a place, and the answer that is being sent.
-use Prim.Native.Nat.{ℕ, _+_, _-_, _/_, _<_, _≤_}
-use mathlib.Core.Bool.{Bool, true, false, _&&_}
+use Prim.Native.Nat.{ℕ, _-_, _<_, _≤_}
+use mathlib.Core.Bool.{Bool, true, false}
 use mathlib.Core.List.{List}
 use mathlib.Core.Path.{_≡_, refl, sym, ap, _∙_}
 use native.Mathlib.Omega.{arith}
@@ -10,18 +10,18 @@ use Rattle.octets.specs.declared.Place.{Place}
 use Rattle.octets.specs.declared.Counted.{Counted}
 use Rattle.octets.proofs.Tests.{and-left, and-right}
 use Rattle.catalog.specs.declared.AnswerName.{AnswerName}
-use Rattle.split.specs.Split.{isSplit, countOf, subMessages}
+use Rattle.split.specs.Split.{countOf, subMessages}
 use Rattle.split.specs.declared.SubMessage.{SubMessage}
 use Rattle.split.proofs.Theorems.{count-one, count-split}
 use Rattle.store.specs.Layout.{narrow}
 use Rattle.store.specs.Check.{storeNumber}
-use Rattle.store.specs.Read.{findPlace, lookupPlace}
+use Rattle.store.specs.Read.{findPlace}
 use Rattle.store.proofs.ReadLaws.{place-broken, place-checked}
 use Rattle.unit.specs.declared.Phase.{Phase}
 use Rattle.unit.specs.declared.Phase.the-variants.{Closed, Started, Session, Granted, Sending}
 use Rattle.unit.specs.declared.UnitState.{UnitState}
 use Rattle.unit.specs.State.{sendable, phasePossible, possible}
-use Rattle.unit.specs.Sent.{nowhere, placeSent, phasePossibleAt, possibleAt}
+use Rattle.unit.specs.Sent.{placeSent, phasePossibleAt, possibleAt}
 use Rattle.unit.proofs.StoreFacts.{found-most}
 
 -- How many sub messages the answer at a place takes; n is its length, 76 and TREP included

@@ -1,19 +1,18 @@
 -- What an unbroken store says of the answers found in it: they have 2 to 60,000 bytes and lie within the buffer.
-use Prim.Native.Nat.{ℕ, zero, suc, _+_, _-_, _<_, _≤_}
+use Prim.Native.Nat.{ℕ, zero, suc, _+_, _<_, _≤_}
 use mathlib.Core.Bool.{Bool, true, false, cond, _&&_}
 use mathlib.Core.List.{List}
-use mathlib.Core.Path.{_≡_, refl, sym, ap, _∙_}
+use mathlib.Core.Path.{_≡_, refl}
 use native.Mathlib.Omega.{arith}
 use native.Mathlib.Nat.{add-zero, zero-add}
 use lib.Dec.{eqb, ltb, leb}
 use lib.ListN.{length}
-use borrow.Author.Tests.{leb-true, ltb-true, eqb-true, ne-eqb}
-use Rattle.octets.specs.declared.Place.{Place}
+use borrow.Author.Tests.{leb-true, ltb-true, eqb-true}
 use Rattle.octets.proofs.Tests.{and-left, and-right}
 use Rattle.catalog.specs.declared.AnswerName.{AnswerName}
-use Rattle.store.specs.Layout.{narrow, answers, streamLength, streamStart, storeLength, entryOffset, entryLength, answerStart}
+use Rattle.store.specs.Layout.{narrow, answers, streamLength, storeLength, entryOffset, entryLength, answerStart}
 use Rattle.store.specs.Check.{headerFits, countsFit, placeRight, placesRight, answersRight, namesDiffer, storeNumber}
-use Rattle.store.specs.Read.{position, findPlace, lookupNumber, lookupPlace}
+use Rattle.store.specs.Read.{position, lookupNumber, lookupPlace}
 
 five-tests : (h c p a n : Bool) → _≡_ {A = ℕ} (cond h (cond c (cond p (cond a (cond n 0 5) 5) 5) 5) 5) 0 → (h ≡ true) × (c ≡ true) × (p ≡ true)
 five-tests true true true a n e = (refl, refl, refl)

@@ -1,12 +1,12 @@
 -- A call searches the store once for the answer that is being sent. Here is what State and Services say of the store, said of the place
--- that was found; proofs/SentLaws has that both agree.
+-- that was found; possible-sent (proofs/StateLaws) and acknowledge-sent (proofs/SentLaws) say that both agree.
 use Prim.Native.Nat.{ℕ}
 use mathlib.Core.Bool.{Bool, true, _&&_}
 use mathlib.Core.List.{List}
 use lib.ListN.{length, getD, drop}
 use lib.Dec.{eqb, ltb, leb}
 use Rattle.octets.specs.Order.{unless}
-use Rattle.octets.specs.Numbers.{notHeld}
+use Rattle.octets.specs.Numbers.{bufferShort, notHeld, outOfTurn}
 use Rattle.octets.specs.BigEndian.{numberAt}
 use Rattle.octets.specs.Buffer.{partAt}
 use Rattle.octets.specs.declared.Place.{Place}
@@ -46,6 +46,13 @@ unfoldable pub possibleAt : UnitState → Place → Bool
 possibleAt u place =
     ltb (u .kind) 3
     && ((leb 1 (u .rate) && leb (u .rate) 5) && (leb (u .pending) 5 && phasePossibleAt (u .phase) place))
+
+-- the numbers of a call behind 5, of the place: 11, 4, then that of the frame
+unfoldable pub numberBehind : UnitState → Place → ℕ → ℕ → ℕ
+numberBehind u place room heard =
+    unless (possibleAt u place) outOfTurn
+    (unless (leb 260 room) bufferShort
+    heard)
 
 -- onSending, of the place
 unfoldable pub onSendingAt : Phase → Place → ℕ → Reaction

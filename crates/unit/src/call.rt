@@ -21,17 +21,14 @@ use split::SubMessage;
 ghost use mathlib.Core.Path.{_≡_};
 ghost use mathlib.Core.Bool.{cond};
 ghost use Prim.Native.Nat.{_-_, _≤_};
-ghost use lib.Dec.{leb};
 ghost use lib.ListN.{length};
-ghost use Rattle.octets.specs.Order.{unless};
-ghost use Rattle.octets.specs.Numbers.{bufferShort, outOfTurn};
 ghost use Rattle.frame.specs.Frame.{lab, dataPlace};
 ghost use Rattle.frame.specs.declared.End.the-variants as ends;
 ghost use Rattle.split.specs.Split.{isSplit};
 ghost use Rattle.store.specs.Layout.{narrow};
 ghost use Rattle.store.specs.Check.{storeNumber};
 ghost use Rattle.unit.specs.Call.{onData, reactionTo, withPhase, withRate, stateAfter, unitResult, unitOut};
-ghost use Rattle.unit.specs.Sent.{placeSent, possibleAt};
+ghost use Rattle.unit.specs.Sent.{placeSent, numberBehind};
 
 // The shortest reply buffer: the longest frame fits in it.
 pub const REPLY_ROOM: usize = 260;
@@ -39,7 +36,7 @@ pub const REPLY_ROOM: usize = 260;
 // The refusals behind 5, in order; `heard` is the frame's number.
 fn number(state: UnitState, sent: Place, room: usize, heard: u8) -> u8
     requires { ⌜ sent .len ≤ 60000 ⌝ }
-    ensures { λ r. ⌜ r ≡ unless (possibleAt state sent) outOfTurn (unless (leb 260 room) bufferShort heard) ⌝ }
+    ensures { λ r. ⌜ r ≡ numberBehind state sent room heard ⌝ }
 {
     if !crate::state::possible_at(state, sent) {
         return OUT_OF_TURN;

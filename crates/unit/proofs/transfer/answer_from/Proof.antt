@@ -2,7 +2,6 @@
 use Rattle.octets.proofs.Tests.{cond-t, cond-f}
 use borrow.Author.Tests.{eq-eqb, ne-eqb}
 use Rattle.unit.specs.Services.{answerFrom}
-use borrow.Author.Needs.{needs}
 use Rattle.unit.proofs.transfer.answer_from.Statement.{statement}
 use Rattle.unit.proofs.transfer.answer_from.Tie as tie
 

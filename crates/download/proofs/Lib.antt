@@ -1,0 +1,11 @@
+pub mod StoreFacts
+pub mod FrameFacts
+pub mod ServiceFacts
+pub mod UnitFacts
+pub mod ToolFacts
+pub mod Theorem
+pub mod Calls
+pub mod Witness
+pub mod TradeCases
+pub mod Consequences
+pub mod Needed

@@ -1,0 +1,264 @@
+-- The premises can be met, and the definitions run: a store with an answer of 502 data bytes, three frames, and one of two, a single frame.
+use Prim.Native.Nat.{ℕ}
+use mathlib.Core.Bool.{true}
+use mathlib.Core.List.{List, [], _∷_, _++_}
+use mathlib.Core.Path.{_≡_, refl}
+use native.Mathlib.Omega.{arith}
+use lib.ListN.{replicate}
+use Rattle.octets.specs.BigEndian.{numberAt}
+use Rattle.octets.specs.Buffer.{front, put}
+use Rattle.frame.specs.Frame.{lab, closed, frameOf, countRight, startRight, addressed, checksumRight, judged, dataPlace, dataOf}
+use Rattle.catalog.specs.Table.{knownTo, listed, isActivities}
+use Rattle.catalog.specs.Name.{firstSecond, dayNamed, sameAnswer, nameNumber}
+use Rattle.catalog.specs.declared.AnswerName.{AnswerName}
+use Rattle.split.specs.Codes.{sub}
+use Rattle.split.specs.Split.{countOf, carries, subField, subFrame}
+use Rattle.split.specs.Join.{isAnswer, receivedAs}
+use Rattle.store.specs.Layout.{narrow, nameAt}
+use Rattle.store.specs.Check.{headerFits, countsFit, placeRight, placesRight, answerRight, answersRight, namedFrom, namesDiffer, storeNumber}
+use Rattle.store.specs.Read.{positionFrom, lookupNumber, lookupPlace, lookupPart}
+use Rattle.unit.specs.declared.UnitState.{UnitState}
+use Rattle.unit.specs.declared.Phase.{Phase}
+use Rattle.unit.specs.declared.Phase.the-variants.{Granted, Sending}
+use Rattle.unit.specs.State.{sendable, phasePossible, possible}
+use Rattle.unit.specs.Services.{requestName, answerFrom, onTransfer, onCode, onSending, onAcknowledge}
+use Rattle.unit.specs.Call.{onData, reactionTo, stateAfter as unitAfter, replyData, replyTo, unitNumber, unitState, unitReply, unitResult}
+use Rattle.tool.specs.declared.Request.the-variants.{Transfer}
+use Rattle.tool.specs.declared.Outcome.the-variants.{Done, NoAnswer}
+use Rattle.tool.specs.State.{freshTool, heldRight, transferPossible, possible as toolPossible}
+use Rattle.tool.specs.Sent.{transferRequest, acknowledgement, transferData, frameSent, sidSent}
+use Rattle.tool.specs.Event.{newBytes, fits, meaningOf, transferMeaning, isRefusal, refusalMeaning, dataMeaning, arrivalMeaning, arrivalBytes, afterFailedWait, stateAfter, sentAfter, roomAfter}
+use Rattle.tool.specs.Call.{requestNumber, beginNumber, beginState, beginSent, beginResult, eventNumber, eventState, eventSent, eventRoom, eventResult}
+use Rattle.line.specs.Line.{unitEnd, toolEnd, lost, repeated, spoiled, Event, arrivesAtUnit, arrivesAtTool, waitEnds, lineChanges, beginRefused}
+use Rattle.line.specs.Book.{Run, run, start, done}
+use Rattle.line.specs.Premises.{AllAllowed, AllClean}
+use Rattle.download.specs.CableEnds.{UnitGiven, cableEnds}
+use Rattle.download.specs.Demand.{Holds, Premises, CallPremise, transfer, Agrees, AgreesClean}
+use Rattle.download.proofs.Theorem.{demand3}
+
+abbrev overview : AnswerName
+overview = record { trep = 0x31; day = 0 }
+
+abbrev interface : AnswerName
+interface = record { trep = 0x00; day = 0 }
+
+-- two answers, 76 31 and 502 bytes, and 76 00 02 02
+abbrev store : List ℕ
+store =
+    0x00 ∷ 0x02 ∷ 0x01 ∷ 0xFC ∷ 0x00 ∷ 0x00 ∷ 0x00 ∷ 0x00 ∷ 0x00 ∷ 0x00 ∷ 0x01 ∷ 0xF8 ∷ 0x00 ∷ 0x00 ∷ 0x00 ∷ 0x00 ∷ 0x01 ∷ 0xF8 ∷ 0x00 ∷ 0x04
+    ∷ 0x76 ∷ 0x31 ∷ (replicate 502 0x07 ++ 0x76 ∷ 0x00 ∷ 0x02 ∷ 0x02 ∷ [])
+
+abbrev unit : Phase → UnitState
+unit phase = record { kind = 2; rate = 1; pending = 3; phase = phase }
+
+holds-overview : Holds store overview (0x76 ∷ 0x31 ∷ replicate 502 0x07)
+unfolding numberAt nameAt headerFits countsFit placeRight placesRight answerRight answersRight namedFrom namesDiffer storeNumber positionFrom lookupNumber lookupPlace lookupPart knownTo listed isActivities firstSecond dayNamed sameAnswer nameNumber
+holds-overview = record { held = refl; bytes = refl }
+
+holds-interface : Holds store interface (0x76 ∷ 0x00 ∷ 0x02 ∷ 0x02 ∷ [])
+unfolding numberAt nameAt headerFits countsFit placeRight placesRight answerRight answersRight namedFrom namesDiffer storeNumber positionFrom lookupNumber lookupPlace lookupPart knownTo listed isActivities firstSecond dayNamed sameAnswer nameNumber
+holds-interface = record { held = refl; bytes = refl }
+
+-- the premise at a call while 31 is sent: its answer is in the store as at the begin
+sending-overview : Holds store overview (lookupPart narrow overview store)
+unfolding numberAt nameAt headerFits countsFit placeRight placesRight answerRight answersRight namedFrom namesDiffer storeNumber positionFrom lookupNumber lookupPlace lookupPart knownTo listed isActivities firstSecond dayNamed sameAnswer nameNumber
+sending-overview = record { held = refl; bytes = refl }
+
+-- another store, with the first answer alone
+abbrev otherStore : List ℕ
+otherStore = 0x00 ∷ 0x01 ∷ 0x01 ∷ 0xF8 ∷ 0x00 ∷ 0x00 ∷ 0x00 ∷ 0x00 ∷ 0x00 ∷ 0x00 ∷ 0x01 ∷ 0xF8 ∷ 0x76 ∷ 0x31 ∷ replicate 502 0x07
+
+other-overview : Holds otherStore overview (0x76 ∷ 0x31 ∷ replicate 502 0x07)
+unfolding numberAt nameAt headerFits countsFit placeRight placesRight answerRight answersRight namedFrom namesDiffer storeNumber positionFrom lookupNumber lookupPlace lookupPart knownTo listed isActivities firstSecond dayNamed sameAnswer nameNumber
+other-overview = record { held = refl; bytes = refl }
+
+other-sending : Holds otherStore overview (lookupPart narrow overview store)
+unfolding numberAt nameAt headerFits countsFit placeRight placesRight answerRight answersRight namedFrom namesDiffer storeNumber positionFrom lookupNumber lookupPlace lookupPart knownTo listed isActivities firstSecond dayNamed sameAnswer nameNumber
+other-sending = record { held = refl; bytes = refl }
+
+accepted : (name : AnswerName) → nameNumber name ≡ 0 → beginNumber freshTool Transfer name 260 ≡ 0
+unfolding requestNumber beginNumber
+accepted name e = rw e
+
+possible-granted : possible store (unit Granted) ≡ true
+unfolding possible phasePossible
+possible-granted = refl
+
+possible-sending : possible store (unit (Sending overview (sub 2))) ≡ true
+unfolding numberAt nameAt headerFits countsFit placeRight placesRight answerRight answersRight namedFrom namesDiffer storeNumber positionFrom lookupNumber lookupPlace lookupPart knownTo listed isActivities firstSecond dayNamed sameAnswer nameNumber countOf possible sendable phasePossible
+possible-sending = refl
+
+known-interface : knownTo 2 0x00 ≡ true
+unfolding knownTo
+known-interface = refl
+
+named-interface : nameNumber interface ≡ 0
+unfolding knownTo listed isActivities firstSecond dayNamed nameNumber
+named-interface = refl
+
+known-overview : knownTo 2 0x31 ≡ true
+unfolding knownTo
+known-overview = refl
+
+named-overview : nameNumber overview ≡ 0
+unfolding knownTo listed isActivities firstSecond dayNamed nameNumber
+named-overview = refl
+
+-- three frames, the unit granted
+abbrev threeFrames : Premises
+threeFrames =
+    record {
+      name = overview;
+      answer = 0x76 ∷ 0x31 ∷ replicate 502 0x07;
+      unit = unit Granted;
+      store = store;
+      tool = freshTool;
+      room = replicate 510 0x00;
+      output = 260;
+      accepted = accepted overview named-overview;
+      fourBytes = omega arith;
+      possible = possible-granted;
+      granted = refl;
+      known = known-overview;
+      holds = holds-overview;
+      suffices = omega arith;
+    }
+
+abbrev call : UnitGiven
+call = record { store = store; reply = 260 }
+
+-- the premise at a call, before the unit sent anything and while it sends
+first-premise : CallPremise threeFrames (unit Granted) call
+first-premise = record { this = holds-overview; sending = tt }
+
+abbrev sending : ℕ → UnitState
+sending k = record { kind = 2; rate = 1; pending = 0; phase = Sending overview (sub k) }
+
+call-premise : (k : ℕ) → CallPremise threeFrames (sending k) call
+call-premise k = record { this = holds-overview; sending = sending-overview }
+
+abbrev after : List (Event (cableEnds lab)) → Run (cableEnds lab)
+after es = run (cableEnds lab) (transfer lab threeFrames) es (start (cableEnds lab) (transfer lab threeFrames))
+
+abbrev clean : List (Event (cableEnds lab))
+clean = arrivesAtUnit call ∷ arrivesAtTool 260 ∷ arrivesAtUnit call ∷ arrivesAtTool 260 ∷ arrivesAtUnit call ∷ arrivesAtTool 260 ∷ []
+
+clean-run : after clean
+    ≡ record {
+      system = record {
+        toUnit = [];
+        toTool = [];
+        unit = sending 3;
+        tool = record {
+          state = record { request = Transfer; outcome = Done; name = overview; sendings = 1; expected = sub 3; held = 504 };
+          room = 0x76 ∷ 0x31 ∷ (replicate 502 0x07 ++ replicate 6 0x00);
+        };
+        putOut = 3;
+        unitArrivals = 3;
+        toolArrivals = 3;
+      };
+      book = record { taken = 3; failed = 0; outcome = done };
+      putOutBefore = 3;
+    }
+unfolding numberAt nameAt headerFits countsFit placeRight placesRight answerRight answersRight namedFrom namesDiffer storeNumber positionFrom lookupNumber lookupPlace lookupPart knownTo listed isActivities firstSecond dayNamed sameAnswer nameNumber closed frameOf countRight startRight addressed checksumRight judged dataPlace dataOf countOf carries subField subFrame possible sendable phasePossible requestName answerFrom onTransfer onCode onSending onAcknowledge onData reactionTo unitAfter replyData replyTo unitNumber unitState unitReply unitResult transferRequest acknowledgement transferData frameSent sidSent heldRight transferPossible toolPossible requestNumber beginNumber beginState beginSent beginResult isAnswer receivedAs newBytes fits meaningOf transferMeaning isRefusal refusalMeaning dataMeaning arrivalMeaning arrivalBytes afterFailedWait stateAfter sentAfter roomAfter eventNumber eventState eventSent eventRoom eventResult front put
+clean-run = refl
+
+clean-premises : AllClean (cableEnds lab) (transfer lab threeFrames) clean (start (cableEnds lab) (transfer lab threeFrames) .system)
+unfolding numberAt nameAt headerFits countsFit placeRight placesRight answerRight answersRight namedFrom namesDiffer storeNumber positionFrom lookupNumber lookupPlace lookupPart knownTo listed isActivities firstSecond dayNamed sameAnswer nameNumber closed frameOf countRight startRight addressed checksumRight judged dataPlace dataOf countOf carries subField subFrame possible sendable phasePossible requestName answerFrom onTransfer onCode onSending onAcknowledge onData reactionTo unitAfter replyData replyTo unitNumber unitState unitReply unitResult transferRequest acknowledgement transferData frameSent sidSent heldRight transferPossible toolPossible requestNumber beginNumber beginState beginSent beginResult isAnswer receivedAs newBytes fits meaningOf transferMeaning isRefusal refusalMeaning dataMeaning arrivalMeaning arrivalBytes afterFailedWait stateAfter sentAfter roomAfter eventNumber eventState eventSent eventRoom eventResult front put
+clean-premises =
+    ((first-premise, refl), (omega arith, ((call-premise 1, refl), (omega arith, ((call-premise 2, refl), (omega arith, tt))))))
+
+clean-agrees : AgreesClean lab threeFrames (after clean)
+clean-agrees = demand3 lab threeFrames clean .clean clean-premises
+
+-- the same, from another store and with less room than a reply may need
+abbrev otherCall : UnitGiven
+otherCall = record { store = otherStore; reply = 300 }
+
+abbrev shortCall : UnitGiven
+shortCall = record { store = otherStore; reply = 10 }
+
+other-premise : (k reply : ℕ) → CallPremise threeFrames (sending k) (record { store = otherStore; reply = reply })
+other-premise k reply = record { this = other-overview; sending = other-sending }
+
+-- The request is lost and goes out again; it is repeated, and a wait ends early. Frame 1 is taken once and ignored once, a begin is refused, a request meets a
+-- short reply buffer, one is spoiled, and so is one of two frames 2; frame 2 comes once more, then frame 3.
+abbrev rough : List (Event (cableEnds lab))
+rough =
+    lineChanges unitEnd 0 lost ∷ waitEnds 260 ∷ lineChanges unitEnd 0 repeated ∷ arrivesAtUnit call ∷ waitEnds 260 ∷ arrivesAtUnit otherCall ∷ arrivesAtTool 260
+    ∷ beginRefused (record { request = Transfer; name = interface; output = 260 }) ∷ arrivesAtTool 300 ∷ arrivesAtUnit shortCall ∷ lineChanges unitEnd 0 (spoiled (0x01 ∷ []))
+    ∷ arrivesAtUnit call ∷ waitEnds 260 ∷ arrivesAtUnit call ∷ lineChanges toolEnd 0 repeated ∷ lineChanges toolEnd 0 (spoiled []) ∷ arrivesAtTool 260 ∷ arrivesAtTool 260
+    ∷ arrivesAtUnit otherCall ∷ arrivesAtUnit call ∷ arrivesAtTool 260 ∷ arrivesAtTool 260 ∷ []
+
+rough-run : after rough
+    ≡ record {
+      system = record {
+        toUnit = [];
+        toTool = [];
+        unit = sending 3;
+        tool = record {
+          state = record { request = Transfer; outcome = Done; name = overview; sendings = 1; expected = sub 3; held = 504 };
+          room = 0x76 ∷ 0x31 ∷ (replicate 502 0x07 ++ replicate 6 0x00);
+        };
+        putOut = 7;
+        unitArrivals = 7;
+        toolArrivals = 6;
+      };
+      book = record { taken = 3; failed = 0; outcome = done };
+      putOutBefore = 7;
+    }
+unfolding numberAt nameAt headerFits countsFit placeRight placesRight answerRight answersRight namedFrom namesDiffer storeNumber positionFrom lookupNumber lookupPlace lookupPart knownTo listed isActivities firstSecond dayNamed sameAnswer nameNumber closed frameOf countRight startRight addressed checksumRight judged dataPlace dataOf countOf carries subField subFrame possible sendable phasePossible requestName answerFrom onTransfer onCode onSending onAcknowledge onData reactionTo unitAfter replyData replyTo unitNumber unitState unitReply unitResult transferRequest acknowledgement transferData frameSent sidSent heldRight transferPossible toolPossible requestNumber beginNumber beginState beginSent beginResult isAnswer receivedAs newBytes fits meaningOf transferMeaning isRefusal refusalMeaning dataMeaning arrivalMeaning arrivalBytes afterFailedWait stateAfter sentAfter roomAfter eventNumber eventState eventSent eventRoom eventResult front put
+rough-run = refl
+
+rough-premises : AllAllowed (cableEnds lab) (transfer lab threeFrames) rough (start (cableEnds lab) (transfer lab threeFrames) .system)
+unfolding numberAt nameAt headerFits countsFit placeRight placesRight answerRight answersRight namedFrom namesDiffer storeNumber positionFrom lookupNumber lookupPlace lookupPart knownTo listed isActivities firstSecond dayNamed sameAnswer nameNumber closed frameOf countRight startRight addressed checksumRight judged dataPlace dataOf countOf carries subField subFrame possible sendable phasePossible requestName answerFrom onTransfer onCode onSending onAcknowledge onData reactionTo unitAfter replyData replyTo unitNumber unitState unitReply unitResult transferRequest acknowledgement transferData frameSent sidSent heldRight transferPossible toolPossible requestNumber beginNumber beginState beginSent beginResult isAnswer receivedAs newBytes fits meaningOf transferMeaning isRefusal refusalMeaning dataMeaning arrivalMeaning arrivalBytes afterFailedWait stateAfter sentAfter roomAfter eventNumber eventState eventSent eventRoom eventResult front put
+rough-premises =
+    (tt, (omega arith, (tt, (first-premise, (omega arith, (other-premise 1 300, (omega arith, (refl, (omega arith, (other-premise 1 10, (refl, (call-premise 1, (omega arith, (call-premise 1, (tt, (refl, (omega arith, (omega arith, (other-premise 2 300, (call-premise 2, (omega arith, (omega arith, tt))))))))))))))))))))))
+
+rough-agrees : Agrees lab threeFrames (after rough)
+rough-agrees = demand3 lab threeFrames rough .allowed rough-premises
+
+-- The request is lost, and nothing arrives any more.
+abbrev silence : List (Event (cableEnds lab))
+silence = lineChanges unitEnd 0 lost ∷ waitEnds 260 ∷ waitEnds 260 ∷ waitEnds 260 ∷ []
+
+silent-run : (after silence .system .tool .state .outcome ≡ NoAnswer) × (after silence .system .tool .state .sendings ≡ 3) × (after silence .system .putOut ≡ 3)
+unfolding numberAt nameAt headerFits countsFit placeRight placesRight answerRight answersRight namedFrom namesDiffer storeNumber positionFrom lookupNumber lookupPlace lookupPart knownTo listed isActivities firstSecond dayNamed sameAnswer nameNumber closed frameOf countRight startRight addressed checksumRight judged dataPlace dataOf countOf carries subField subFrame possible sendable phasePossible requestName answerFrom onTransfer onCode onSending onAcknowledge onData reactionTo unitAfter replyData replyTo unitNumber unitState unitReply unitResult transferRequest acknowledgement transferData frameSent sidSent heldRight transferPossible toolPossible requestNumber beginNumber beginState beginSent beginResult isAnswer receivedAs newBytes fits meaningOf transferMeaning isRefusal refusalMeaning dataMeaning arrivalMeaning arrivalBytes afterFailedWait stateAfter sentAfter roomAfter eventNumber eventState eventSent eventRoom eventResult front put
+silent-run = (refl, refl, refl)
+
+silent-agrees : Agrees lab threeFrames (after silence)
+silent-agrees = demand3 lab threeFrames silence .allowed (tt, (omega arith, (omega arith, (omega arith, tt))))
+
+-- one frame, the unit sending another answer
+abbrev oneFrame : Premises
+oneFrame =
+    record {
+      name = interface;
+      answer = 0x76 ∷ 0x00 ∷ 0x02 ∷ 0x02 ∷ [];
+      unit = unit (Sending overview (sub 2));
+      store = store;
+      tool = freshTool;
+      room = replicate 4 0x00;
+      output = 260;
+      accepted = accepted interface named-interface;
+      fourBytes = omega arith;
+      possible = possible-sending;
+      granted = refl;
+      known = known-interface;
+      holds = holds-interface;
+      suffices = omega arith;
+    }
+
+abbrev exchange : List (Event (cableEnds lab))
+exchange = arrivesAtUnit call ∷ arrivesAtTool 260 ∷ []
+
+one-run : run (cableEnds lab) (transfer lab oneFrame) exchange (start (cableEnds lab) (transfer lab oneFrame)) .system .tool
+    ≡ record {
+      state = record { request = Transfer; outcome = Done; name = interface; sendings = 1; expected = sub 1; held = 4 };
+      room = 0x76 ∷ 0x00 ∷ 0x02 ∷ 0x02 ∷ [];
+    }
+unfolding numberAt nameAt headerFits countsFit placeRight placesRight answerRight answersRight namedFrom namesDiffer storeNumber positionFrom lookupNumber lookupPlace lookupPart knownTo listed isActivities firstSecond dayNamed sameAnswer nameNumber closed frameOf countRight startRight addressed checksumRight judged dataPlace dataOf countOf carries subField subFrame possible sendable phasePossible requestName answerFrom onTransfer onCode onSending onAcknowledge onData reactionTo unitAfter replyData replyTo unitNumber unitState unitReply unitResult transferRequest acknowledgement transferData frameSent sidSent heldRight transferPossible toolPossible requestNumber beginNumber beginState beginSent beginResult isAnswer receivedAs newBytes fits meaningOf transferMeaning isRefusal refusalMeaning dataMeaning arrivalMeaning arrivalBytes afterFailedWait stateAfter sentAfter roomAfter eventNumber eventState eventSent eventRoom eventResult front put
+one-run = refl
+
+one-agrees : AgreesClean lab oneFrame (run (cableEnds lab) (transfer lab oneFrame) exchange (start (cableEnds lab) (transfer lab oneFrame)))
+one-agrees = demand3 lab oneFrame exchange .clean ((record { this = holds-interface; sending = sending-overview }, refl), (omega arith, tt))

@@ -1,0 +1,153 @@
+-- DEMAND 3 (document 01, "The line and the book"): one claim about every list of events, over any two addresses that both ends are given at every call; they need
+-- not differ. The chain: a call → its promise → a definition (specs/ of unit and tool) → an end of the cable (CableEnds.antt) → line, events and book (specs/ of line)
+-- → the claim here. proofs/Theorem.antt proves it; proofs/Witness.antt meets its premises; proofs/Needed.antt shows each of them needed.
+use mathlib.Core.Path.{_≡_}
+use mathlib.Core.Bool.{true}
+use mathlib.Core.List.{List, [], _∷_, _++_}
+use mathlib.Core.Logic.{_↔_}
+use Prim.Native.Nat.{ℕ, zero, suc, _+_, _*_, _≤_, _<_}
+use lib.ListN.{length, take, drop}
+use lib.Dec.{leb}
+use Rattle.frame.specs.declared.Addresses.{Addresses}
+use Rattle.octets.specs.Buffer.{sameBytes}
+use Rattle.catalog.specs.declared.AnswerName.{AnswerName}
+use Rattle.catalog.specs.Table.{knownTo}
+use Rattle.split.specs.Split.{countOf, carries, subFrame}
+use Rattle.store.specs.Layout.{narrow}
+use Rattle.store.specs.Read.{lookupNumber, lookupPart}
+use Rattle.unit.specs.declared.UnitState.{UnitState}
+use Rattle.unit.specs.declared.Phase.{Phase}
+use Rattle.unit.specs.declared.Phase.the-variants.{Closed, Started, Session, Granted, Sending}
+use Rattle.unit.specs.State as unitStates
+use Rattle.tool.specs.declared.Request.the-variants as requests
+use Rattle.tool.specs.declared.Outcome.{Outcome}
+use Rattle.tool.specs.declared.Outcome.the-variants.{Waiting, Done, NoAnswer}
+use Rattle.tool.specs.declared.ToolState.{ToolState}
+use Rattle.tool.specs.Call.{beginNumber}
+use Rattle.line.specs.Line.{Event}
+use Rattle.line.specs.Book as books
+use Rattle.line.specs.Book.{Run, run, start}
+use Rattle.line.specs.Premises.{AllAllowed, AllClean}
+use Rattle.download.specs.CableEnds.{UnitGiven, cableEnds, refused, toolBegun}
+
+-- The premises
+
+-- the store is unbroken (else 5) and holds an answer of that name (else 6), with these bytes
+pub record Holds (store : List ℕ) (name : AnswerName) (answer : List ℕ) : Type 0 where
+  pub held : lookupNumber narrow name store ≡ 0
+  pub bytes : lookupPart narrow name store ≡ answer
+
+-- "A list starts behind a transfer's accepted begin": the answer by its name and bytes, the unit with its store, the tool with its room and output
+pub record Premises : Type 0 where
+  pub name : AnswerName
+  pub answer : List ℕ
+  pub unit : UnitState
+  pub store : List ℕ
+  pub tool : ToolState
+  pub room : List ℕ
+  pub output : ℕ
+  -- the begin is accepted
+  pub accepted : beginNumber tool requests.Transfer name output ≡ 0
+  -- "Activities carry a day, four bytes"
+  pub fourBytes : name .day < 0x100000000
+  -- the unit's state is possible with the store: granted, or sending this answer or another one
+  pub possible : unitStates.possible store unit ≡ true
+  pub granted : unitStates.isGranted (unit .phase) ≡ true
+  -- "A unit is of one kind and knows only its column"
+  pub known : knownTo (unit .kind) (name .trep) ≡ true
+  -- the store is unbroken and holds the answer
+  pub holds : Holds store name answer
+  -- the room suffices for the answer
+  pub suffices : length answer ≤ length room
+
+-- the answer that a unit in this phase is sending is in the store now as it was before
+abbrev pub SendingUnchanged : Phase → List ℕ → List ℕ → Type 0
+SendingUnchanged Closed before now = Unit {0}
+SendingUnchanged Started before now = Unit {0}
+SendingUnchanged Session before now = Unit {0}
+SendingUnchanged Granted before now = Unit {0}
+SendingUnchanged (Sending other last) before now = Holds now other (lookupPart narrow other before)
+
+module _ (given : Premises) where
+  -- A unit's call in the state u. The store may be another one at every call; it is unbroken and holds this answer as at the begin, and the one that is being sent.
+  pub record CallPremise (u : UnitState) (c : UnitGiven) : Type 0 where
+    pub this : Holds (c .store) (given .name) (given .answer)
+    pub sending : SendingUnchanged (u .phase) (given .store) (c .store)
+
+  -- the data of the answer, behind 76 and TREP
+  abbrev pub answerData : List ℕ
+  answerData = drop 2 (given .answer)
+
+  -- "76, TREP and the data of frames 1 to p, at p = 0 nothing"
+  abbrev pub dataUpTo : ℕ → List ℕ
+  dataUpTo zero = []
+  dataUpTo (suc p) = dataUpTo p ++ carries (suc p) answerData
+
+  abbrev pub heldWith : ℕ → List ℕ
+  heldWith zero = []
+  heldWith (suc p) = 0x76 ∷ given .name .trep ∷ dataUpTo (suc p)
+
+abbrev pub outcomeOf : books.Outcome → Outcome
+outcomeOf books.waiting = Waiting
+outcomeOf books.done = Done
+outcomeOf books.noAnswer = NoAnswer
+
+module _ (a : Addresses) (given : Premises) where
+  -- "the answer's frames 1 to q, split as above". An event's output has 260 bytes or more; a reply buffer has any length, on a clean line 260 or more.
+  abbrev pub transfer : books.Transfer (cableEnds a)
+  transfer =
+      record {
+        q = countOf (length (answerData given));
+        frame = λ k. subFrame a (given .name .trep) k (answerData given);
+        same = sameBytes;
+        refused = refused a;
+        unitPremise = CallPremise given;
+        toolPremise = λ output. 260 ≤ output;
+        hasRoom = λ c. leb 260 (c .reply);
+        unit = given .unit;
+        begun = toolBegun a (record { request = requests.Transfer; name = given .name; output = given .output }) (record { state = given .tool; room = given .room });
+      }
+
+  -- the tool after some events, and the bytes that it holds in its room
+  abbrev pub tool : Run (cableEnds a) → ToolState
+  tool r = r .system .tool .state
+
+  abbrev pub heldBytes : Run (cableEnds a) → List ℕ
+  heldBytes r = take (tool r .held) (r .system .tool .room)
+
+  -- After every list of allowed events
+  pub record Agrees (r : Run (cableEnds a)) : Type 0 where
+    -- "After every list the tool waits or has ended as the book has"
+    pub outcome : tool r .outcome ≡ outcomeOf (r .book .outcome)
+    -- "it holds 76, TREP and the data of frames 1 to p, at p = 0 nothing"; behind these bytes the room is as it was lent
+    pub heldLength : tool r .held ≡ length (heldWith given (r .book .taken))
+    pub held : heldBytes r ≡ heldWith given (r .book .taken)
+    pub behind : drop (tool r .held) (r .system .tool .room) ≡ drop (tool r .held) (given .room)
+    -- "p = q is done": exactly then, and the tool holds the whole answer
+    pub doneAtQ : (tool r .outcome ≡ Done) ↔ (r .book .taken ≡ transfer .q)
+    pub whole : tool r .outcome ≡ Done → heldBytes r ≡ given .answer
+    -- "f = 3 is 'no answer'": exactly then
+    pub noAnswerAtThree : (tool r .outcome ≡ NoAnswer) ↔ (r .book .failed ≡ 3)
+    -- it "has put out at most 3q frames", its begin's too
+    pub putOutAtMost : r .system .putOut ≤ 3 * transfer .q
+    -- "the count equals the frames put out since the last step forward", while it waits and after "no answer"
+    pub sendings : (tool r .outcome ≡ Done → ⊥) → r .putOutBefore + tool r .sendings ≡ r .system .putOut
+
+  -- "On a clean line without early waits, done comes at the q-th arrival at the tool, the line never empty before"
+  pub record AgreesClean (r : Run (cableEnds a)) : Type 0 where
+    pub agrees : Agrees r
+    pub doneAtArrival : (tool r .outcome ≡ Done) ↔ (r .system .toolArrivals ≡ transfer .q)
+    pub neverEmpty : tool r .outcome ≡ Waiting → r .system .toUnit ++ r .system .toTool ≡ [] → ⊥
+    pub neverNoAnswer : tool r .outcome ≡ NoAnswer → ⊥
+    -- it does come: 2q arrivals in all are enough
+    pub inTime : 2 * transfer .q ≤ r .system .unitArrivals + r .system .toolArrivals → tool r .outcome ≡ Done
+
+  -- "This is one claim about the list, not one for each call."
+  pub record Claim (events : List (Event (cableEnds a))) : Type 0 where
+    pub allowed : AllAllowed (cableEnds a) transfer events (start (cableEnds a) transfer .system)
+        → Agrees (run (cableEnds a) transfer events (start (cableEnds a) transfer))
+    pub clean : AllClean (cableEnds a) transfer events (start (cableEnds a) transfer .system)
+        → AgreesClean (run (cableEnds a) transfer events (start (cableEnds a) transfer))
+
+abbrev pub Demand3 : Type 0
+Demand3 = (a : Addresses) (given : Premises) (events : List (Event (cableEnds a))) → Claim a given events

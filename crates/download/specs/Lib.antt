@@ -1,0 +1,3 @@
+pub mod CableEnds
+pub mod Demand
+pub mod TradeCases

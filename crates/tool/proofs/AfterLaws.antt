@@ -1,0 +1,95 @@
+-- The next state and the frame that goes out, for each meaning.
+use Prim.Native.Nat.{ℕ, _+_, _<_, _≤_}
+use mathlib.Core.Bool.{Bool, true, false, cond}
+use mathlib.Core.List.{List, []}
+use mathlib.Core.Path.{_≡_, refl, sym, ap, _∙_}
+use native.Mathlib.Omega.{arith}
+use lib.ListN.{length, drop}
+use mir.Syntax.{w16, w32}
+use mir.Val.{Fits}
+use borrow.Author.Tests.{le-leb, lt-leb}
+use Rattle.octets.specs.Buffer.{front}
+use Rattle.frame.specs.declared.Addresses.{Addresses}
+use Rattle.frame.specs.declared.End.the-variants as ends
+use Rattle.frame.specs.Frame.{frameOf}
+use Rattle.split.specs.Codes.{stopCode}
+use Rattle.split.specs.declared.AckCode.{AckCode}
+use Rattle.tool.specs.declared.Outcome.the-variants.{NoAnswer}
+use Rattle.tool.specs.declared.ToolState.{ToolState}
+use Rattle.tool.specs.declared.Meaning.{Meaning}
+use Rattle.tool.specs.declared.Meaning.the-variants.{FailedWait, NoRoomForSubMessage}
+use Rattle.tool.specs.Sent.{acknowledgement, frameSent}
+use Rattle.tool.specs.Event.{ended, waits, afterFailedWait, takes, stateAfter, sentAfter}
+
+-- "after the third sending the request ends"
+module _ (t r : ToolState) where
+  pub third-ends : 3 ≤ t .sendings → r ≡ ended t NoAnswer (t .held) → r ≡ afterFailedWait t
+  unfolding afterFailedWait
+  third-ends h e = rw (le-leb 3 (t .sendings) h) e
+
+  pub again-waits : t .sendings < 3 → r ≡ waits t (t .sendings + 1) (t .expected .0) (t .held) → r ≡ afterFailedWait t
+  unfolding afterFailedWait
+  again-waits h e = rw (lt-leb 3 (t .sendings) h) e
+
+-- by the meaning that the code matched
+module _ (m m′ : Meaning) (same : m ≡ m′) where
+  pub takes-at : (r : Bool) → r ≡ takes m′ → r ≡ takes m
+  takes-at r e = rw same e
+
+  pub state-at : (t r : ToolState) (n : ℕ) → r ≡ stateAfter t m′ n → r ≡ stateAfter t m n
+  state-at t r n e = rw same e
+
+  pub sent-at-length : (a : Addresses) (t : ToolState) (n : ℕ) → n ≡ length (sentAfter a t m′) → n ≡ length (sentAfter a t m)
+  sent-at-length a t n e = rw same e
+
+  pub sent-at-front : (a : Addresses) (t : ToolState) (o o′ : List ℕ) → o′ ≡ front (sentAfter a t m′) o → o′ ≡ front (sentAfter a t m) o
+  sent-at-front a t o o′ e = rw same e
+
+-- nothing sent leaves the buffer as it was
+pub front-none : (o : List ℕ) → o ≡ front [] o
+unfolding front
+front-none o = refl
+
+-- after a failed wait the same frame again, or nothing after the third sending
+module _ (a : Addresses) (t : ToolState) (m : Meaning) (same : m ≡ FailedWait) where
+  pub third-length : 3 ≤ t .sendings → 0 ≡ length (sentAfter a t m)
+  unfolding sentAfter
+  third-length h = rw (same, le-leb 3 (t .sendings) h)
+
+  pub third-front : (o : List ℕ) → 3 ≤ t .sendings → o ≡ front (sentAfter a t m) o
+  unfolding sentAfter
+  third-front o h = rw (same, le-leb 3 (t .sendings) h) (front-none o)
+
+  pub again-length : (n : ℕ) → t .sendings < 3 → n ≡ length (frameSent a (t .request) (t .name) (t .expected .0)) → n ≡ length (sentAfter a t m)
+  unfolding sentAfter
+  again-length n h e = rw (same, lt-leb 3 (t .sendings) h) e
+
+  pub again-front : (o o′ : List ℕ) → t .sendings < 3 → o′ ≡ front (frameSent a (t .request) (t .name) (t .expected .0)) o → o′ ≡ front (sentAfter a t m) o
+  unfolding sentAfter
+  again-front o o′ h e = rw (same, lt-leb 3 (t .sendings) h) e
+
+-- for a sub message without room, the stop code
+module _ (a : Addresses) (t : ToolState) (m : Meaning) (same : m ≡ NoRoomForSubMessage) (code : AckCode) (stop : code ≡ stopCode) where
+  pub stop-length : (n : ℕ) → n ≡ length (frameOf a ends.Unit (acknowledgement code)) → n ≡ length (sentAfter a t m)
+  unfolding sentAfter
+  stop-length n e = rw (same, ← stop) e
+
+  pub stop-front : (o o′ : List ℕ) → o′ ≡ front (frameOf a ends.Unit (acknowledgement code)) o → o′ ≡ front (sentAfter a t m) o
+  unfolding sentAfter
+  stop-front o o′ e = rw (same, ← stop) e
+
+-- where bytes are taken, the sums fit their widths
+module _ (m m′ : Meaning) where
+  pub taken-cast : (h n : ℕ) → (takes m ≡ true → h + n ≤ 60000) → m ≡ m′ → takes m′ ≡ true → Fits w32 n
+  taken-cast h n f same k = record { fits = omega (arith, f (rw same k)) }
+
+  pub taken-sum : (h n : ℕ) → (takes m ≡ true → h + n ≤ 60000) → m ≡ m′ → takes m′ ≡ true → Fits w32 (h + n)
+  taken-sum h n f same k = record { fits = omega (arith, f (rw same k)) }
+
+  pub taken-next : (e : ℕ) → (takes m ≡ true → e < 65535) → m ≡ m′ → takes m′ ≡ true → Fits w16 (e + 1)
+  taken-next e f same k = record { fits = omega (arith, f (rw same k)) }
+
+-- a failed wait takes nothing
+pub failed-takes : {A : Type 0} → takes FailedWait ≡ true → A
+unfolding takes
+failed-takes h = absurd (let z : _≡_ {A = ℕ} 0 1 = cc in omega arith)

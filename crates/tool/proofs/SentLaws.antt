@@ -1,0 +1,99 @@
+-- The frames that are sent: each has 5 to 260 bytes, so a buffer of 260 takes it.
+use Prim.Native.Nat.{ℕ, _+_, _-_, _/_, _%_, _<_, _≤_}
+use mathlib.Core.Bool.{Bool, true, false, cond}
+use mathlib.Core.List.{List, [], _∷_}
+use mathlib.Core.Path.{_≡_, refl, sym, ap, _∙_}
+use native.Mathlib.Omega.{arith}
+use lib.Dec.{eqb}
+use lib.ListN.{length}
+use borrow.Author.Tests.{lt-ltb, le-leb, eq-eqb, ne-eqb}
+use Rattle.octets.specs.Buffer.{front, sameBytes}
+use Rattle.octets.specs.declared.Written.{Written}
+use Rattle.frame.specs.declared.Addresses.{Addresses}
+use Rattle.frame.specs.declared.End.{End}
+use Rattle.frame.specs.declared.End.the-variants as ends
+use Rattle.frame.specs.Frame.{closed, frameOf, writeNumber, writeResult, writeOut}
+use Rattle.frame.specs.Messages.{startFrame, startResult, startOut}
+use Rattle.frame.proofs.WriteLaws.{length-frame}
+use Rattle.catalog.specs.Table.{isActivities}
+use Rattle.catalog.specs.declared.AnswerName.{AnswerName}
+use Rattle.split.specs.Codes.{sub, acknowledgeOf}
+use Rattle.split.specs.declared.SubMessage.{SubMessage}
+use Rattle.split.specs.declared.AckCode.{AckCode}
+use Rattle.tool.specs.declared.Request.{Request}
+use Rattle.tool.specs.declared.Request.the-variants as requests
+use Rattle.tool.specs.Sent.{transferRequest, acknowledgement, transferData, frameSent, sidSent, replyWanted}
+
+-- A frame written into 260 bytes or more
+
+module _ (a : Addresses) (end : End) (d o : List ℕ) (some : 1 ≤ length d) (most : length d ≤ 255) (room : 260 ≤ length o) where
+  not-refused : writeNumber (length d) (length o) ≡ 0
+  unfolding writeNumber
+  not-refused = rw (lt-ltb 0 (length d) some, le-leb (length d) 255 most, le-leb (length d + 5) (length o) (omega arith))
+
+  pub written-length : (w : Written) → w ≡ writeResult d (length o) → w .len ≡ length (frameOf a end d)
+  unfolding writeResult
+  written-length w e = rw (e, not-refused) (sym (length-frame a end d))
+
+  pub written-out : (o′ : List ℕ) → o′ ≡ writeOut a end d o → o′ ≡ front (frameOf a end d) o
+  unfolding writeOut
+  written-out o′ e = rw not-refused at e
+
+module _ (a : Addresses) (o : List ℕ) (room : 260 ≤ length o) where
+  pub start-length : (w : Written) → w ≡ startResult (length o) → w .len ≡ length (startFrame a)
+  unfolding startResult closed
+  start-length w e = rw (e, le-leb 5 (length o) (omega arith))
+
+  pub start-out : (o′ : List ℕ) → o′ ≡ startOut a o → o′ ≡ front (startFrame a) o
+  unfolding startOut
+  start-out o′ e = rw (le-leb 5 (length o) (omega arith)) at e
+
+-- What was sent under one description, under another: frames of equal data, and equal frames
+
+module _ (a : Addresses) (end : End) (d d′ : List ℕ) where
+  pub length-data : (n : ℕ) → n ≡ length (frameOf a end d) → d ≡ d′ → n ≡ length (frameOf a end d′)
+  length-data n e q = rw (← q) e
+
+  pub front-data : (o o′ : List ℕ) → o′ ≡ front (frameOf a end d) o → d ≡ d′ → o′ ≡ front (frameOf a end d′) o
+  front-data o o′ e q = rw (← q) e
+
+module _ (name : AnswerName) where
+  pub request-day : isActivities (name .trep) ≡ true → 0x36 ∷ name .trep ∷ name .day / 256 / 256 / 256 % 256 ∷ name .day / 256 / 256 % 256 ∷ name .day / 256 % 256 ∷ name .day % 256 ∷ [] ≡ transferRequest name
+  unfolding transferRequest
+  request-day h = rw h
+
+  pub request-only : isActivities (name .trep) ≡ false → 0x36 ∷ name .trep ∷ [] ≡ transferRequest name
+  unfolding transferRequest
+  request-only h = rw h
+
+pub code-bytes : (code : AckCode) → 0x83 ∷ 0x76 ∷ code .0 / 256 % 256 ∷ code .0 % 256 ∷ [] ≡ acknowledgement code
+unfolding acknowledgement
+code-bytes code = refl
+
+pub transfer-first : (name : AnswerName) (e : ℕ) → e ≡ 1 → transferRequest name ≡ transferData name e
+unfolding transferData
+transfer-first name e h = rw (eq-eqb e 1 h)
+
+pub transfer-next : (name : AnswerName) (e : ℕ) (before : SubMessage) (code : AckCode) → (e ≡ 1 → ⊥) → before ≡ sub (e - 1) → code ≡ acknowledgeOf before → acknowledgement code ≡ transferData name e
+unfolding transferData
+transfer-next name e before code h b c = rw (ne-eqb e 1 h, c, b)
+
+pub no-before : (e : ℕ) → e ≡ 0 → sub 0 ≡ sub (e - 1)
+no-before e h = let z : e - 1 ≡ 0 = omega arith in rw z
+
+-- The frame of each request
+
+module _ (a : Addresses) (name : AnswerName) (e : ℕ) (q q′ : Request) (same : q ≡ q′) where
+  pub sent-length : (n : ℕ) → n ≡ length (frameSent a q′ name e) → n ≡ length (frameSent a q name e)
+  sent-length n h = rw same h
+
+  pub sent-front : (o o′ : List ℕ) → o′ ≡ front (frameSent a q′ name e) o → o′ ≡ front (frameSent a q name e) o
+  sent-front o o′ h = rw same h
+
+-- "the SID last sent", and the reply, for each request
+
+pub sid-at : (q q′ : Request) (e r : ℕ) → q ≡ q′ → r ≡ sidSent q′ e → r ≡ sidSent q e
+sid-at q q′ e r h p = rw h p
+
+pub reply-at : (q q′ : Request) (d : List ℕ) (r : Bool) → q ≡ q′ → r ≡ sameBytes d (replyWanted q′) → r ≡ sameBytes d (replyWanted q)
+reply-at q q′ d r h p = rw h p

@@ -1,0 +1,132 @@
+// What follows from an event: the next state, and the frame that goes out.
+use crate::Meaning;
+use crate::Outcome;
+use crate::ToolState;
+use split::SubMessage;
+ghost use mathlib.Core.Path.{_≡_};
+ghost use mathlib.Core.Bool.{true};
+ghost use Prim.Native.Nat.{_+_, _≤_, _<_};
+ghost use lib.ListN.{length};
+ghost use Rattle.octets.specs.Buffer.{front};
+ghost use Rattle.frame.specs.Frame.{lab};
+ghost use Rattle.tool.specs.Event.{ended, waits, afterFailedWait, takes, stateAfter, sentAfter};
+
+// Whether the frame's bytes go into the room.
+pub(crate) fn takes_in(meaning: Meaning) -> bool
+    ensures { λ r. ⌜ r ≡ takes meaning ⌝ }
+{
+    match meaning {
+        Meaning::Ignored => false,
+        Meaning::FailedWait => false,
+        Meaning::Confirmed => false,
+        Meaning::WholeAnswer => true,
+        Meaning::SubMessageTaken => true,
+        Meaning::LastTaken => true,
+        Meaning::NoRoomForAnswer => false,
+        Meaning::NoRoomForSubMessage => false,
+        Meaning::RefusedBy(_) => false,
+    }
+}
+
+// The same request at its end.
+fn end(state: ToolState, outcome: Outcome, held: u32) -> ToolState
+    ensures { λ r. ⌜ r ≡ ended state outcome held ⌝ }
+{
+    let request = state.request;
+    let name = state.name;
+    let expected = state.expected;
+    ToolState {
+        request,
+        outcome,
+        name,
+        sendings: state.sendings,
+        expected,
+        held,
+    }
+}
+
+// The same request, waiting.
+fn wait(state: ToolState, sendings: u8, expected: SubMessage, held: u32) -> ToolState
+    ensures { λ r. ⌜ r ≡ waits state sendings (expected .0) held ⌝ }
+{
+    let request = state.request;
+    let name = state.name;
+    ToolState {
+        request,
+        outcome: Outcome::Waiting,
+        name,
+        sendings,
+        expected,
+        held,
+    }
+}
+
+// "after the third sending the request ends 'no answer' (DDP_027)"
+fn after_failed_wait(state: ToolState) -> ToolState
+    ensures { λ r. ⌜ r ≡ afterFailedWait state ⌝ }
+{
+    let expected = state.expected;
+    let sendings = state.sendings;
+    if 3 <= sendings {
+        return end(state, Outcome::NoAnswer, state.held);
+    }
+    wait(state, sendings + 1, expected, state.held)
+}
+
+// The next state; where bytes are taken, their sum with those held and the next number fit.
+pub(crate) fn state_after(state: ToolState, meaning: Meaning, new: usize) -> ToolState
+    requires { ⌜ (takes meaning ≡ true → state .held + new ≤ 60000) ⌝ }
+    requires { ⌜ (takes meaning ≡ true → state .expected .0 < 65535) ⌝ }
+    ensures { λ r. ⌜ r ≡ stateAfter state meaning new ⌝ }
+{
+    let held = state.held;
+    match meaning {
+        Meaning::Ignored => state,
+        Meaning::FailedWait => after_failed_wait(state),
+        Meaning::Confirmed => end(state, Outcome::Done, held),
+        Meaning::WholeAnswer => end(state, Outcome::Done, held + (new as u32)),
+        Meaning::SubMessageTaken => wait(
+            state,
+            1,
+            SubMessage(state.expected.0 + 1),
+            held + (new as u32),
+        ),
+        Meaning::LastTaken => end(state, Outcome::Done, held + (new as u32)),
+        Meaning::NoRoomForAnswer => end(state, Outcome::NoRoom, held),
+        Meaning::NoRoomForSubMessage => end(state, Outcome::NoRoom, held),
+        Meaning::RefusedBy(code) => end(state, Outcome::Refused(code), held),
+    }
+}
+
+// Writes the frame that goes out at the front of `out` and answers its length, 0 for none.
+pub(crate) fn write_sent(state: ToolState, meaning: Meaning, out: &mut [u8]) -> usize
+    requires { ⌜ (takes meaning ≡ true → state .expected .0 < 65535) ⌝ }
+    requires { ⌜ 260 ≤ length (now out) ⌝ }
+    ensures { λ n. ⌜ n ≡ length (sentAfter lab state meaning) ⌝ }
+    ensures { λ _. ⌜ now (out .exit) ≡ front (sentAfter lab state meaning) (now (out .entry)) ⌝ }
+{
+    let request = state.request;
+    let name = state.name;
+    let expected = state.expected;
+    match meaning {
+        Meaning::Ignored => 0,
+        Meaning::FailedWait => {
+            if 3 <= state.sendings {
+                0
+            } else {
+                crate::sent::write_request(request, name, expected, out)
+            }
+        }
+        Meaning::Confirmed => 0,
+        Meaning::WholeAnswer => 0,
+        Meaning::SubMessageTaken => {
+            crate::sent::write_request(request, name, SubMessage(expected.0 + 1), out)
+        }
+        Meaning::LastTaken => 0,
+        Meaning::NoRoomForAnswer => 0,
+        Meaning::NoRoomForSubMessage => {
+            crate::sent::write_acknowledgement(split::codes::stop(), out)
+        }
+        Meaning::RefusedBy(_) => 0,
+    }
+}

@@ -1,0 +1,100 @@
+// What a string that arrives means to a waiting tool.
+use crate::Meaning;
+use crate::ToolState;
+use frame::End;
+use split::Received;
+ghost use mathlib.Core.Path.{_≡_};
+ghost use Rattle.frame.specs.Frame.{lab};
+ghost use Rattle.tool.specs.Event.{meaningOf, transferMeaning, isRefusal, refusalMeaning, dataMeaning, arrivalMeaning};
+
+fn is_refusal(state: ToolState, data: &[u8]) -> bool
+    ensures { λ r. ⌜ r ≡ isRefusal state (now («data» .entry)) ⌝ }
+{
+    let request = state.request;
+    let expected = state.expected;
+    if data.len() != 3 {
+        return false;
+    }
+    if data[0] != 0x7F {
+        return false;
+    }
+    data[1] == crate::sent::sid_sent(request, expected)
+}
+
+// Code 78 starts the wait anew, any other ends the request.
+fn refusal_meaning(code: u8) -> Meaning
+    ensures { λ r. ⌜ r ≡ refusalMeaning code ⌝ }
+{
+    if code == 0x78 {
+        Meaning::Ignored
+    } else {
+        Meaning::RefusedBy(code)
+    }
+}
+
+fn meaning_of(received: Received, room: bool) -> Meaning
+    ensures { λ r. ⌜ r ≡ meaningOf received room ⌝ }
+{
+    match received {
+        Received::Whole => {
+            if room {
+                Meaning::WholeAnswer
+            } else {
+                Meaning::NoRoomForAnswer
+            }
+        }
+        Received::Full => {
+            if room {
+                Meaning::SubMessageTaken
+            } else {
+                Meaning::NoRoomForSubMessage
+            }
+        }
+        Received::Last => {
+            if room {
+                Meaning::LastTaken
+            } else {
+                Meaning::NoRoomForSubMessage
+            }
+        }
+        Received::Above => Meaning::FailedWait,
+        Received::Other => Meaning::Ignored,
+    }
+}
+
+fn transfer_meaning(state: ToolState, data: &[u8], room: usize) -> Meaning
+    ensures { λ r. ⌜ r ≡ transferMeaning room state (now («data» .entry)) ⌝ }
+{
+    let received = crate::room::receive(state, data);
+    let new = crate::room::new_length(state, received, data);
+    meaning_of(received, crate::room::fits_in(state, new, room))
+}
+
+// What the data of a good frame means.
+fn data_meaning(state: ToolState, data: &[u8], room: usize) -> Meaning
+    ensures { λ r. ⌜ r ≡ dataMeaning room state (now («data» .entry)) ⌝ }
+{
+    let request = state.request;
+    if is_refusal(state, data) {
+        return refusal_meaning(octets::big_endian::byte_at(data, 2));
+    }
+    if crate::state::is_transfer(request) {
+        return transfer_meaning(state, data, room);
+    }
+    if crate::sent::is_reply(request, data) {
+        Meaning::Confirmed
+    } else {
+        Meaning::Ignored
+    }
+}
+
+// What a string that arrives means, with a room of this length. A frame that the frame rules refuse is a failed wait; it has no data.
+pub fn arrival_meaning(state: ToolState, frame: &[u8], room: usize) -> Meaning
+    ensures { λ r. ⌜ r ≡ arrivalMeaning lab room state (now (frame .entry)) ⌝ }
+{
+    let data = frame::check::data_of(frame, End::Tool);
+    if data.len() == 0 {
+        return Meaning::FailedWait;
+    }
+    data_meaning(state, data, room)
+}

@@ -1,0 +1,142 @@
+// The frames that the tool sends, and the replies that it waits for.
+use crate::Request;
+use catalog::AnswerName;
+use frame::End;
+use frame::messages::EXIT;
+use frame::messages::EXITED;
+use frame::messages::SESSION;
+use frame::messages::SESSION_OPENED;
+use frame::messages::STARTED;
+use frame::messages::STOP;
+use frame::messages::STOPPED;
+use frame::messages::UPLOAD;
+use frame::messages::UPLOAD_GRANTED;
+use split::AckCode;
+use split::SubMessage;
+ghost use mathlib.Core.Path.{_≡_};
+ghost use Prim.Native.Nat.{_-_, _≤_};
+ghost use lib.ListN.{length};
+ghost use Rattle.octets.specs.Buffer.{front, sameBytes};
+ghost use Rattle.frame.specs.Frame.{lab, frameOf};
+ghost use Rattle.frame.specs.declared.End.the-variants as ends;
+ghost use Rattle.split.specs.Codes.{sub};
+ghost use Rattle.tool.specs.Sent.{transferRequest, acknowledgement, transferData, frameSent, sidSent, replyWanted};
+
+// Each writer answers the length of the frame, which stands at the front of `out`; 260 bytes are enough for every frame.
+fn write_data(data: &[u8], out: &mut [u8]) -> usize
+    requires { ⌜ 1 ≤ length (now «data») ⌝ }
+    requires { ⌜ length (now «data») ≤ 255 ⌝ }
+    requires { ⌜ 260 ≤ length (now out) ⌝ }
+    ensures { λ n. ⌜ n ≡ length (frameOf lab ends.Unit (now («data» .entry))) ⌝ }
+    ensures { λ _. ⌜ now (out .exit) ≡ front (frameOf lab ends.Unit (now («data» .entry))) (now (out .entry)) ⌝ }
+{
+    let written = frame::write::write(data, End::Unit, out);
+    written.len
+}
+
+fn write_transfer_request(name: AnswerName, out: &mut [u8]) -> usize
+    requires { ⌜ 260 ≤ length (now out) ⌝ }
+    ensures { λ n. ⌜ n ≡ length (frameOf lab ends.Unit (transferRequest name)) ⌝ }
+    ensures { λ _. ⌜ now (out .exit) ≡ front (frameOf lab ends.Unit (transferRequest name)) (now (out .entry)) ⌝ }
+{
+    let trep = name.trep;
+    let day = name.day;
+    if !catalog::is_activities(trep) {
+        return write_data(&[0x36, trep], out);
+    }
+    let data = [
+        0x36,
+        trep,
+        (day / 256 / 256 / 256 % 256) as u8,
+        (day / 256 / 256 % 256) as u8,
+        (day / 256 % 256) as u8,
+        (day % 256) as u8,
+    ];
+    write_data(&data, out)
+}
+
+// 83 76 and a code (DDP_017).
+pub(crate) fn write_acknowledgement(code: AckCode, out: &mut [u8]) -> usize
+    requires { ⌜ 260 ≤ length (now out) ⌝ }
+    ensures { λ n. ⌜ n ≡ length (frameOf lab ends.Unit (acknowledgement code)) ⌝ }
+    ensures { λ _. ⌜ now (out .exit) ≡ front (frameOf lab ends.Unit (acknowledgement code)) (now (out .entry)) ⌝ }
+{
+    let c = code.0;
+    let data = [0x83, 0x76, (c / 256 % 256) as u8, (c % 256) as u8];
+    write_data(&data, out)
+}
+
+// The sub message before this one; before 0 there is none.
+fn before(expected: SubMessage) -> SubMessage
+    ensures { λ r. ⌜ r ≡ sub (expected .0 - 1) ⌝ }
+{
+    let e = expected.0;
+    if e == 0 {
+        return SubMessage(0);
+    }
+    SubMessage(e - 1)
+}
+
+// With 1 expected the transfer request is out, else the acknowledgement of the sub message before.
+fn write_transfer(name: AnswerName, expected: SubMessage, out: &mut [u8]) -> usize
+    requires { ⌜ 260 ≤ length (now out) ⌝ }
+    ensures { λ n. ⌜ n ≡ length (frameOf lab ends.Unit (transferData name (expected .0))) ⌝ }
+    ensures { λ _. ⌜ now (out .exit) ≡ front (frameOf lab ends.Unit (transferData name (expected .0))) (now (out .entry)) ⌝ }
+{
+    if expected.0 == 1 {
+        return write_transfer_request(name, out);
+    }
+    write_acknowledgement(split::codes::acknowledge(before(expected)), out)
+}
+
+// The frame of a request, in a transfer with this number expected.
+pub(crate) fn write_request(
+    request: Request,
+    name: AnswerName,
+    expected: SubMessage,
+    out: &mut [u8],
+) -> usize
+    requires { ⌜ 260 ≤ length (now out) ⌝ }
+    ensures { λ n. ⌜ n ≡ length (frameSent lab request name (expected .0)) ⌝ }
+    ensures { λ _. ⌜ now (out .exit) ≡ front (frameSent lab request name (expected .0)) (now (out .entry)) ⌝ }
+{
+    match request {
+        Request::Start => {
+            let written = frame::messages::write_start(out);
+            written.len
+        }
+        Request::Session => write_data(&SESSION, out),
+        Request::Upload => write_data(&UPLOAD, out),
+        Request::Exit => write_data(&EXIT, out),
+        Request::Stop => write_data(&STOP, out),
+        Request::Transfer => write_transfer(name, expected, out),
+    }
+}
+
+// The SID that a refusal of the last frame names.
+pub(crate) fn sid_sent(request: Request, expected: SubMessage) -> u8
+    ensures { λ r. ⌜ r ≡ sidSent request (expected .0) ⌝ }
+{
+    match request {
+        Request::Start => 0x81,
+        Request::Session => 0x10,
+        Request::Upload => 0x35,
+        Request::Exit => 0x37,
+        Request::Stop => 0x82,
+        Request::Transfer => { if expected.0 == 1 { 0x36 } else { 0x83 } }
+    }
+}
+
+// Whether the data is the reply to a fixed request, byte by byte; a transfer has no such reply.
+pub(crate) fn is_reply(request: Request, data: &[u8]) -> bool
+    ensures { λ r. ⌜ r ≡ sameBytes (now («data» .entry)) (replyWanted request) ⌝ }
+{
+    match request {
+        Request::Start => octets::buffer::same(data, &STARTED),
+        Request::Session => octets::buffer::same(data, &SESSION_OPENED),
+        Request::Upload => octets::buffer::same(data, &UPLOAD_GRANTED),
+        Request::Exit => octets::buffer::same(data, &EXITED),
+        Request::Stop => octets::buffer::same(data, &STOPPED),
+        Request::Transfer => octets::buffer::same(data, b""),
+    }
+}
