@@ -1,6 +1,6 @@
 -- DEMAND 3 (document 01, "The line and the book"): one claim about every list of events, over any two addresses that both ends are given at every call; they need
 -- not differ. The chain: a call → its promise → a definition (specs/ of unit and tool) → an end of the cable (CableEnds.antt) → line, events and book (specs/ of line)
--- → the claim here. proofs/Theorem.antt proves it; proofs/Witness.antt meets its premises; proofs/Needed.antt shows each of them needed.
+-- → the claim here. proofs/Theorem.antt proves it; proofs/Witness.antt meets its premises; proofs/Needed.antt shows what breaks without each.
 use mathlib.Core.Path.{_≡_}
 use mathlib.Core.Bool.{true}
 use mathlib.Core.List.{List, [], _∷_, _++_}
@@ -48,7 +48,7 @@ pub record Premises : Type 0 where
   pub output : ℕ
   -- the begin is accepted
   pub accepted : beginNumber tool requests.Transfer name output ≡ 0
-  -- "Activities carry a day, four bytes"
+  -- "Activities carry a day, four bytes": the day's type in the code, u32
   pub fourBytes : name .day < 0x100000000
   -- the unit's state is possible with the store: granted, or sending this answer or another one
   pub possible : unitStates.possible store unit ≡ true
