@@ -136,7 +136,13 @@ fn wait_ends(s: Session, room: &mut [u8], line: &mut [u8], lens: &mut [usize]) -
     }
 }
 
-fn event(s: Session, store: &[u8], room: &mut [u8], line: &mut [u8], lens: &mut [usize]) -> Session {
+fn event(
+    s: Session,
+    store: &[u8],
+    room: &mut [u8],
+    line: &mut [u8],
+    lens: &mut [usize],
+) -> Session {
     let to_unit = s.to_unit;
     let to_tool = s.to_tool;
     if 0 < to_unit.count {
@@ -186,7 +192,13 @@ fn name_of(request: Request) {
 }
 
 // The events of one request, at most two hundred, until it has ended and the line is empty.
-fn events(s: Session, store: &[u8], room: &mut [u8], line: &mut [u8], lens: &mut [usize]) -> Session {
+fn events(
+    s: Session,
+    store: &[u8],
+    room: &mut [u8],
+    line: &mut [u8],
+    lens: &mut [usize],
+) -> Session {
     let mut now = s;
     let mut i = 0;
     while i < 200 {

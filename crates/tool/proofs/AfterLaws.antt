@@ -5,7 +5,7 @@ use mathlib.Core.List.{List, []}
 use mathlib.Core.Path.{_≡_, refl, sym, ap, _∙_}
 use native.Mathlib.Omega.{arith}
 use lib.ListN.{length, drop}
-use mir.Syntax.{w16, w32}
+use mir.Syntax.{w16}
 use mir.Val.{Fits}
 use borrow.Author.Tests.{le-leb, lt-leb}
 use Rattle.octets.specs.Buffer.{front}
@@ -14,10 +14,10 @@ use Rattle.frame.specs.declared.End.the-variants as ends
 use Rattle.frame.specs.Frame.{frameOf}
 use Rattle.split.specs.Codes.{stopCode}
 use Rattle.split.specs.declared.AckCode.{AckCode}
-use Rattle.tool.specs.declared.Outcome.the-variants.{NoAnswer}
+use Rattle.tool.specs.declared.Outcome.the-variants.{Done, NoAnswer}
 use Rattle.tool.specs.declared.ToolState.{ToolState}
 use Rattle.tool.specs.declared.Meaning.{Meaning}
-use Rattle.tool.specs.declared.Meaning.the-variants.{FailedWait, NoRoomForSubMessage}
+use Rattle.tool.specs.declared.Meaning.the-variants.{FailedWait, WholeAnswer, SubMessageTaken, LastTaken, NoRoomForSubMessage}
 use Rattle.tool.specs.Sent.{acknowledgement, frameSent}
 use Rattle.tool.specs.Event.{ended, waits, afterFailedWait, takes, stateAfter, sentAfter}
 
@@ -44,6 +44,20 @@ module _ (m m′ : Meaning) (same : m ≡ m′) where
 
   pub sent-at-front : (a : Addresses) (t : ToolState) (o o′ : List ℕ) → o′ ≡ front (sentAfter a t m′) o → o′ ≡ front (sentAfter a t m) o
   sent-at-front a t o o′ e = rw same e
+
+-- where bytes are taken; g are held with the new ones
+module _ (m : Meaning) (t r : ToolState) (n g : ℕ) (e : g ≡ t .held + n) where
+  pub state-whole : m ≡ WholeAnswer → r ≡ ended t Done g → r ≡ stateAfter t m n
+  unfolding stateAfter
+  state-whole h q = rw (h, ← e) q
+
+  pub state-taken : m ≡ SubMessageTaken → r ≡ waits t 1 (t .expected .0 + 1) g → r ≡ stateAfter t m n
+  unfolding stateAfter
+  state-taken h q = rw (h, ← e) q
+
+  pub state-last : m ≡ LastTaken → r ≡ ended t Done g → r ≡ stateAfter t m n
+  unfolding stateAfter
+  state-last h q = rw (h, ← e) q
 
 -- nothing sent leaves the buffer as it was
 pub front-none : (o : List ℕ) → o ≡ front [] o
@@ -78,13 +92,10 @@ module _ (a : Addresses) (t : ToolState) (m : Meaning) (same : m ≡ NoRoomForSu
   unfolding sentAfter
   stop-front o o′ e = rw (same, ← stop) e
 
--- where bytes are taken, the sums fit their widths
+-- where bytes are taken, the sums fit
 module _ (m m′ : Meaning) where
-  pub taken-cast : (h n : ℕ) → (takes m ≡ true → h + n ≤ 60000) → m ≡ m′ → takes m′ ≡ true → Fits w32 n
-  taken-cast h n f same k = record { fits = omega (arith, f (rw same k)) }
-
-  pub taken-sum : (h n : ℕ) → (takes m ≡ true → h + n ≤ 60000) → m ≡ m′ → takes m′ ≡ true → Fits w32 (h + n)
-  taken-sum h n f same k = record { fits = omega (arith, f (rw same k)) }
+  pub taken-sum : (sum : ℕ) → (takes m ≡ true → sum ≤ 60000) → m ≡ m′ → takes m′ ≡ true → sum ≤ 60000
+  taken-sum sum f same k = f (rw same k)
 
   pub taken-next : (e : ℕ) → (takes m ≡ true → e < 65535) → m ≡ m′ → takes m′ ≡ true → Fits w16 (e + 1)
   taken-next e f same k = record { fits = omega (arith, f (rw same k)) }

@@ -73,6 +73,14 @@ fn after_failed_wait(state: ToolState) -> ToolState
     wait(state, sendings + 1, expected, state.held)
 }
 
+// So many bytes are held with the new ones.
+fn grown(held: u32, new: usize) -> u32
+    requires { ⌜ held + new ≤ 60000 ⌝ }
+    ensures { λ r. ⌜ r ≡ held + new ⌝ }
+{
+    held + (new as u32)
+}
+
 // The next state; where bytes are taken, their sum with those held and the next number fit.
 pub(crate) fn state_after(state: ToolState, meaning: Meaning, new: usize) -> ToolState
     requires { ⌜ (takes meaning ≡ true → state .held + new ≤ 60000) ⌝ }
@@ -84,14 +92,14 @@ pub(crate) fn state_after(state: ToolState, meaning: Meaning, new: usize) -> Too
         Meaning::Ignored => state,
         Meaning::FailedWait => after_failed_wait(state),
         Meaning::Confirmed => end(state, Outcome::Done, held),
-        Meaning::WholeAnswer => end(state, Outcome::Done, held + (new as u32)),
+        Meaning::WholeAnswer => end(state, Outcome::Done, grown(held, new)),
         Meaning::SubMessageTaken => wait(
             state,
             1,
             SubMessage(state.expected.0 + 1),
-            held + (new as u32),
+            grown(held, new),
         ),
-        Meaning::LastTaken => end(state, Outcome::Done, held + (new as u32)),
+        Meaning::LastTaken => end(state, Outcome::Done, grown(held, new)),
         Meaning::NoRoomForAnswer => end(state, Outcome::NoRoom, held),
         Meaning::NoRoomForSubMessage => end(state, Outcome::NoRoom, held),
         Meaning::RefusedBy(code) => end(state, Outcome::Refused(code), held),

@@ -1,0 +1,201 @@
+-- The calls on packed states, from what the unit and the tool promise. A call that is not refused was made on bytes that are a state.
+use Prim.Native.Nat.{ℕ, _<_, _≤_}
+use mathlib.Core.Bool.{Bool, true, false, cond}
+use mathlib.Core.List.{List, append-nil}
+use mathlib.Core.Path.{_≡_, refl, sym, ap, _∙_}
+use native.Mathlib.Omega.{arith}
+use lib.Dec.{eqb, ltb, leb}
+use lib.ListN.{length, drop-of-length-le}
+use borrow.Author.Tests.{lt-ltb, le-ltb, le-leb, lt-leb, eq-eqb, ne-eqb}
+use Rattle.octets.specs.Order.{orElse}
+use Rattle.octets.specs.Buffer.{front, copied}
+use Rattle.octets.specs.declared.Written.{Written}
+use Rattle.octets.proofs.BufferLaws.{copied-fits}
+use Rattle.frame.specs.Frame.{lab}
+use Rattle.catalog.specs.declared.AnswerName.{AnswerName}
+use Rattle.store.specs.Layout.{narrow}
+use Rattle.store.specs.Check.{storeNumber}
+use Rattle.unit.specs.declared.UnitState.{UnitState}
+use Rattle.unit.specs.declared.UnitReply.{UnitReply}
+use Rattle.unit.specs.State as unit-state
+use Rattle.unit.specs.Call.{unitNumber, unitResult}
+use Rattle.tool.specs.declared.Request.{Request}
+use Rattle.tool.specs.declared.Meaning.{Meaning}
+use Rattle.tool.specs.declared.ToolState.{ToolState}
+use Rattle.tool.specs.declared.ToolStep.{ToolStep}
+use Rattle.tool.specs.State as tool-state
+use Rattle.tool.specs.Call.{requestNumber, beginNumber, beginResult, beginOut, eventNumber, eventResult}
+use Rattle.host.specs.Packed.{packedUnit, isUnit, noUnit, unpackedUnit, requestFrom, packedTool, isTool, noTool, unpackedTool}
+use Rattle.host.specs.Calls.{unitFreshNumber, unitFreshState, unitHanded, unitKept, toolFreshNumber, toolFreshState, toolHanded, toolKept, toolBegin, toolBeginOut}
+use Rattle.host.proofs.UnitLaws.{length-unit, unit-none, unit-size}
+use Rattle.host.proofs.ToolLaws.{length-tool, tool-none, tool-size}
+
+-- bytes that fill the whole buffer
+copied-whole : (p b b′ : List ℕ) → length b ≡ length p → b′ ≡ copied p b → b′ ≡ p
+unfolding front
+copied-whole p b b′ h e =
+    e ∙ copied-fits p b (omega arith) ∙ rw (drop-of-length-le b {i = length p} (omega arith), append-nil)
+
+-- 11, or a refusal before it, is a refusal
+refused-turn : (n : ℕ) → orElse n 11 ≡ 0 → ⊥
+refused-turn n h = go (eqb n 0) refl h
+  where
+    go : (x : Bool) → eqb n 0 ≡ x → cond x 11 n ≡ 0 → ⊥
+    go true e q = omega arith
+    go false e q = let t : eqb n 0 ≡ true = eq-eqb n 0 q in let z : _≡_ {A = ℕ} 0 1 = cc in omega arith
+
+-- The unit
+
+-- bytes that are no state: "5, 11", whatever follows
+pub unit-impossible : (store : List ℕ) (room : ℕ) (b f : List ℕ) → isUnit b ≡ false → unitNumber lab store room (unpackedUnit b) f ≡ orElse (storeNumber narrow store) 11
+unfolding unitNumber unit-state.possible
+unit-impossible store room b f h = rw (← unit-none b noUnit h refl)
+
+pub step-state : (step : UnitReply) (u : UnitState) (store : List ℕ) (room : ℕ) (b f : List ℕ) → u ≡ unpackedUnit b → step ≡ unitResult lab store room u f → step .number ≡ 0 → length b ≡ 11
+unfolding unitResult
+step-state step u store room b f e q n = go (isUnit b) refl
+  where
+    go : (x : Bool) → isUnit b ≡ x → length b ≡ 11
+    go true h = unit-size b h
+    go false h =
+        let k : unitNumber lab store room (unpackedUnit b) f ≡ 0 = rw (← e) (ap (λ (s : UnitReply). s .number) (sym q) ∙ n) in
+        absurd (refused-turn (storeNumber narrow store) (sym (unit-impossible store room b f h) ∙ k))
+
+-- what a step hands over: refused, or with its next state packed
+module _ (step : UnitReply) where
+  pub unit-hands : _≡_ {A = Written} (record { number = step .number; len = step .len }) (unitHanded step)
+  unfolding unitHanded
+  unit-hands = refl
+
+  pub unit-refused : (b : List ℕ) → (step .number ≡ 0 → ⊥) → b ≡ unitKept step b
+  unfolding unitKept
+  unit-refused b n = rw (ne-eqb (step .number) 0 n)
+
+  pub unit-accepted : (b b′ : List ℕ) → (step .number ≡ 0 → length b ≡ 11) → step .number ≡ 0 → b′ ≡ copied (packedUnit (step .state)) b → b′ ≡ unitKept step b
+  unfolding unitKept
+  unit-accepted b b′ l n e =
+      rw (eq-eqb (step .number) 0 n) (copied-whole (packedUnit (step .state)) b b′ (l n ∙ sym (length-unit (step .state))) e)
+
+-- a fresh unit, from the tests of the code
+module _ (kind : ℕ) (b : List ℕ) where
+  pub fresh-kind : 3 ≤ kind → 11 ≡ unitFreshNumber kind (length b)
+  unfolding unitFreshNumber
+  fresh-kind h = rw (le-ltb kind 3 h)
+
+  pub fresh-kind-kept : 3 ≤ kind → b ≡ unitFreshState kind b
+  unfolding unitFreshNumber unitFreshState
+  fresh-kind-kept h = rw (le-ltb kind 3 h)
+
+  module _ (k : kind < 3) where
+    pub fresh-short : length b < 11 → 4 ≡ unitFreshNumber kind (length b)
+    unfolding unitFreshNumber
+    fresh-short h = rw (lt-ltb kind 3 k, lt-leb 11 (length b) h)
+
+    pub fresh-short-kept : length b < 11 → b ≡ unitFreshState kind b
+    unfolding unitFreshNumber unitFreshState
+    fresh-short-kept h = rw (lt-ltb kind 3 k, lt-leb 11 (length b) h)
+
+    pub fresh-good : 11 ≤ length b → 0 ≡ unitFreshNumber kind (length b)
+    unfolding unitFreshNumber
+    fresh-good h = rw (lt-ltb kind 3 k, le-leb 11 (length b) h)
+
+    pub fresh-good-packed : (u : UnitState) (b′ : List ℕ) → 11 ≤ length b → u ≡ unit-state.freshUnit kind → b′ ≡ copied (packedUnit u) b → b′ ≡ unitFreshState kind b
+    unfolding unitFreshNumber unitFreshState
+    fresh-good-packed u b′ h e q =
+        rw (lt-ltb kind 3 k, le-leb 11 (length b) h, ← e) (q ∙ copied-fits (packedUnit u) b (omega (arith, length-unit u)))
+
+-- The tool
+
+-- bytes that are no state: "12, 11" at a begin, 11 at an event, whatever follows
+pub begin-impossible : (request : Request) (name : AnswerName) (out : ℕ) (b : List ℕ) → isTool b ≡ false → beginNumber (unpackedTool b) request name out ≡ orElse (requestNumber request name) 11
+unfolding beginNumber
+begin-impossible request name out b h = rw (← tool-none b noTool h refl)
+
+pub event-impossible : (room out : ℕ) (b : List ℕ) → isTool b ≡ false → eventNumber (unpackedTool b) room out ≡ 11
+unfolding eventNumber tool-state.possible
+event-impossible room out b h = rw (← tool-none b noTool h refl)
+
+pub begin-state : (step : ToolStep) (t : ToolState) (request : Request) (name : AnswerName) (out : ℕ) (b : List ℕ) → t ≡ unpackedTool b → step ≡ beginResult lab t request name out → step .number ≡ 0 → length b ≡ 15
+unfolding beginResult
+begin-state step t request name out b e q n = go (isTool b) refl
+  where
+    go : (x : Bool) → isTool b ≡ x → length b ≡ 15
+    go true h = tool-size b h
+    go false h =
+        let k : beginNumber (unpackedTool b) request name out ≡ 0 = rw (← e) (ap (λ (s : ToolStep). s .number) (sym q) ∙ n) in
+        absurd (refused-turn (requestNumber request name) (sym (begin-impossible request name out b h) ∙ k))
+
+pub event-state : (step : ToolStep) (t : ToolState) (m : Meaning) (new : List ℕ) (room out : ℕ) (b : List ℕ) → t ≡ unpackedTool b → step ≡ eventResult lab t m new room out → step .number ≡ 0 → length b ≡ 15
+unfolding eventResult
+event-state step t m new room out b e q n = go (isTool b) refl
+  where
+    go : (x : Bool) → isTool b ≡ x → length b ≡ 15
+    go true h = tool-size b h
+    go false h =
+        let k : eventNumber (unpackedTool b) room out ≡ 0 = rw (← e) (ap (λ (s : ToolStep). s .number) (sym q) ∙ n) in
+        let i : eventNumber (unpackedTool b) room out ≡ 11 = event-impossible room out b h in
+        absurd (omega arith)
+
+-- what a step hands over: refused, or with its next state packed
+module _ (step : ToolStep) where
+  pub tool-hands : _≡_ {A = Written} (record { number = step .number; len = step .len }) (toolHanded step)
+  unfolding toolHanded
+  tool-hands = refl
+
+  pub tool-refuses : (b : List ℕ) → (step .number ≡ 0 → ⊥) → b ≡ toolKept step b
+  unfolding toolKept
+  tool-refuses b n = rw (ne-eqb (step .number) 0 n)
+
+  pub tool-accepts : (b b′ : List ℕ) → (step .number ≡ 0 → length b ≡ 15) → step .number ≡ 0 → b′ ≡ copied (packedTool (step .state)) b → b′ ≡ toolKept step b
+  unfolding toolKept
+  tool-accepts b b′ l n e =
+      rw (eq-eqb (step .number) 0 n) (copied-whole (packedTool (step .state)) b b′ (l n ∙ sym (length-tool (step .state))) e)
+
+-- a begin, from the test of its request
+module _ (b : List ℕ) (request : ℕ) (name : AnswerName) where
+  module _ (h : 5 < request) (out : ℕ) where
+    pub begin-none : _≡_ {A = Written} (record { number = 12; len = 0 }) (toolHanded (toolBegin b request name out))
+    unfolding toolBegin toolHanded
+    begin-none = rw (lt-leb request 5 h)
+
+    pub begin-none-kept : b ≡ toolKept (toolBegin b request name out) b
+    unfolding toolBegin toolKept
+    begin-none-kept = rw (lt-leb request 5 h)
+
+  pub begin-none-out : (out : List ℕ) → 5 < request → out ≡ toolBeginOut b request name out
+  unfolding toolBeginOut
+  begin-none-out out h = rw (lt-leb request 5 h)
+
+  module _ (h : request ≤ 5) (t : ToolState) (r : Request) (e : t ≡ unpackedTool b) (q : r ≡ requestFrom request) where
+    begun-by : (step : ToolStep) (out : ℕ) → step ≡ beginResult lab t r name out → step ≡ toolBegin b request name out
+    unfolding toolBegin
+    begun-by step out s = rw (le-leb request 5 h, ← e, ← q) s
+
+    pub begin-handed : (step : ToolStep) (out : ℕ) (w : Written) → step ≡ beginResult lab t r name out → w ≡ toolHanded step → w ≡ toolHanded (toolBegin b request name out)
+    begin-handed step out w s k = k ∙ ap toolHanded (begun-by step out s)
+
+    pub begin-kept : (step : ToolStep) (out : ℕ) (b′ : List ℕ) → step ≡ beginResult lab t r name out → b′ ≡ toolKept step b → b′ ≡ toolKept (toolBegin b request name out) b
+    begin-kept step out b′ s k = k ∙ ap (λ (x : ToolStep). toolKept x b) (begun-by step out s)
+
+    pub begin-out : (out out′ : List ℕ) → out′ ≡ beginOut lab t r name out → out′ ≡ toolBeginOut b request name out
+    unfolding toolBeginOut
+    begin-out out out′ s = rw (le-leb request 5 h, ← e, ← q) s
+
+-- a fresh tool, from the test of the code
+module _ (b : List ℕ) where
+  pub tool-short : length b < 15 → 4 ≡ toolFreshNumber (length b)
+  unfolding toolFreshNumber
+  tool-short h = rw (lt-leb 15 (length b) h)
+
+  pub tool-short-kept : length b < 15 → b ≡ toolFreshState b
+  unfolding toolFreshNumber toolFreshState
+  tool-short-kept h = rw (lt-leb 15 (length b) h)
+
+  pub tool-good : 15 ≤ length b → 0 ≡ toolFreshNumber (length b)
+  unfolding toolFreshNumber
+  tool-good h = rw (le-leb 15 (length b) h)
+
+  pub tool-good-packed : (t : ToolState) (b′ : List ℕ) → 15 ≤ length b → t ≡ tool-state.freshTool → b′ ≡ copied (packedTool t) b → b′ ≡ toolFreshState b
+  unfolding toolFreshNumber toolFreshState
+  tool-good-packed t b′ h e q =
+      rw (le-leb 15 (length b) h, ← e) (q ∙ copied-fits (packedTool t) b (omega (arith, length-tool t)))

@@ -1,0 +1,88 @@
+-- The unit's and the tool's calls on packed states: the state is unpacked, the call is made on it, and the next state is packed only where
+-- nothing is refused ("Each returns its number with the state as handed in, and writes nothing").
+use Prim.Native.Nat.{ℕ}
+use mathlib.Core.List.{List}
+use lib.ListN.{length}
+use lib.Dec.{ltb, leb}
+use Rattle.octets.specs.Order.{unless}
+use Rattle.octets.specs.Numbers.{done, bufferShort, outOfTurn, notInTable, changedBy}
+use Rattle.octets.specs.Buffer.{front}
+use Rattle.octets.specs.declared.Written.{Written}
+use Rattle.frame.specs.Frame.{lab}
+use Rattle.catalog.specs.declared.AnswerName.{AnswerName}
+use Rattle.unit.specs.declared.UnitReply.{UnitReply}
+use Rattle.unit.specs.State.{freshUnit}
+use Rattle.unit.specs.Call.{unitResult, unitOut}
+use Rattle.tool.specs.declared.ToolStep.{ToolStep}
+use Rattle.tool.specs.State.{freshTool}
+use Rattle.tool.specs.Call.{beginResult, beginOut, arrivalResult, arrivalRoom, arrivalOut, waitResult, waitOut}
+use Rattle.host.specs.Packed.{unitSize, packedUnit, unpackedUnit, toolSize, requestFrom, packedTool, unpackedTool}
+
+-- The unit
+
+-- 11: kind out of range; 4: too short
+unfoldable pub unitFreshNumber : ℕ → ℕ → ℕ
+unitFreshNumber kind room =
+    unless (ltb kind 3) outOfTurn
+    (unless (leb unitSize room) bufferShort
+    done)
+
+-- it changes only the first bytes
+unfoldable pub unitFreshState : ℕ → List ℕ → List ℕ
+unitFreshState kind state =
+    changedBy (unitFreshNumber kind (length state)) (front (packedUnit (freshUnit kind)) state) state
+
+-- what a step hands to the host, and the state bytes after it
+unfoldable pub unitHanded : UnitReply → Written
+unitHanded reply = record { number = reply .number; len = reply .len }
+
+unfoldable pub unitKept : UnitReply → List ℕ → List ℕ
+unitKept reply state = changedBy (reply .number) (packedUnit (reply .state)) state
+
+-- the step on packed bytes, with a reply buffer of room bytes, and that buffer after it
+abbrev pub unitStep : List ℕ → List ℕ → ℕ → List ℕ → UnitReply
+unitStep state store room frame = unitResult lab store room (unpackedUnit state) frame
+
+abbrev pub unitStepReply : List ℕ → List ℕ → List ℕ → List ℕ → List ℕ
+unitStepReply state store frame reply = unitOut lab store (unpackedUnit state) frame reply
+
+-- The tool
+
+-- 4: too short
+unfoldable pub toolFreshNumber : ℕ → ℕ
+toolFreshNumber room = unless (leb toolSize room) bufferShort done
+
+unfoldable pub toolFreshState : List ℕ → List ℕ
+toolFreshState state = changedBy (toolFreshNumber (length state)) (front (packedTool freshTool) state) state
+
+unfoldable pub toolHanded : ToolStep → Written
+toolHanded step = record { number = step .number; len = step .len }
+
+unfoldable pub toolKept : ToolStep → List ℕ → List ℕ
+toolKept step state = changedBy (step .number) (packedTool (step .state)) state
+
+-- "12: answer or request not in the table": a request above 5 is none
+unfoldable pub toolBegin : List ℕ → ℕ → AnswerName → ℕ → ToolStep
+toolBegin state request name out =
+    unless (leb request 5) (record { number = notInTable; state = unpackedTool state; len = 0 })
+    (beginResult lab (unpackedTool state) (requestFrom request) name out)
+
+unfoldable pub toolBeginOut : List ℕ → ℕ → AnswerName → List ℕ → List ℕ
+toolBeginOut state request name out =
+    unless (leb request 5) out (beginOut lab (unpackedTool state) (requestFrom request) name out)
+
+-- events, with a room of room bytes and an output of out bytes
+abbrev pub toolArrival : List ℕ → List ℕ → ℕ → ℕ → ToolStep
+toolArrival state frame room out = arrivalResult lab (unpackedTool state) frame room out
+
+abbrev pub toolArrivalRoom : List ℕ → List ℕ → ℕ → List ℕ → List ℕ
+toolArrivalRoom state frame out room = arrivalRoom lab (unpackedTool state) frame out room
+
+abbrev pub toolArrivalOut : List ℕ → List ℕ → ℕ → List ℕ → List ℕ
+toolArrivalOut state frame room out = arrivalOut lab (unpackedTool state) frame room out
+
+abbrev pub toolWait : List ℕ → ℕ → ℕ → ToolStep
+toolWait state room out = waitResult lab (unpackedTool state) room out
+
+abbrev pub toolWaitOut : List ℕ → ℕ → List ℕ → List ℕ
+toolWaitOut state room out = waitOut lab (unpackedTool state) room out

@@ -1,0 +1,48 @@
+// Judging, reading and writing frames. A flag says which end: true is the tool, false the unit.
+use frame::End;
+use octets::Place;
+use octets::Written;
+ghost use mathlib.Core.Path.{_≡_};
+ghost use lib.ListN.{length};
+ghost use Rattle.octets.specs.Sum.{checksumOf};
+ghost use Rattle.frame.specs.Frame.{lab, judged, dataPlace, writeResult, writeOut};
+ghost use Rattle.host.specs.Ends.{endOf};
+
+fn end_of(tool: bool) -> End
+    ensures { λ r. ⌜ r ≡ endOf tool ⌝ }
+{
+    if tool { End::Tool } else { End::Unit }
+}
+
+// The sum of the bytes modulo 256, as frames carry it.
+#[no_mangle]
+pub extern "C" fn tacho_checksum(bytes: &[u8]) -> u8
+    ensures { λ r. ⌜ r ≡ checksumOf (now (bytes .entry)) ⌝ }
+{
+    octets::sum::checksum(bytes)
+}
+
+// The number of a frame judged at that end: 0 where it is good, else 1, 2 or 3.
+#[no_mangle]
+pub extern "C" fn tacho_frame_check(frame: &[u8], at_tool: bool) -> u8
+    ensures { λ r. ⌜ r ≡ judged lab (endOf «at_tool») (now (frame .entry)) ⌝ }
+{
+    frame::check::check(frame, end_of(at_tool))
+}
+
+// Where the data of a good frame lies.
+#[no_mangle]
+pub extern "C" fn tacho_frame_data(frame: &[u8], at_tool: bool) -> Place
+    ensures { λ r. ⌜ r ≡ dataPlace lab (endOf «at_tool») (now (frame .entry)) ⌝ }
+{
+    frame::check::locate(frame, end_of(at_tool))
+}
+
+// Writes the frame to that end with this data.
+#[no_mangle]
+pub extern "C" fn tacho_frame_write(data: &[u8], to_tool: bool, out: &mut [u8]) -> Written
+    ensures { λ r. ⌜ r ≡ writeResult (now («data» .entry)) (length (now (out .entry))) ⌝ }
+    ensures { λ _. ⌜ now (out .exit) ≡ writeOut lab (endOf «to_tool») (now («data» .entry)) (now (out .entry)) ⌝ }
+{
+    frame::write::write(data, end_of(to_tool), out)
+}

@@ -1,0 +1,10 @@
+// The calls for C hosts on numbers and byte slices (host/include/tacho.h). Every call is total; the states of unit and tool are packed bytes.
+pub mod arrays;
+pub mod bench_store;
+mod fields;
+pub mod frames;
+mod pack_tool;
+mod pack_unit;
+pub mod splitting;
+pub mod tool_calls;
+pub mod unit_calls;

@@ -1,0 +1,175 @@
+// The tool's state in 15 bytes: request, outcome, wire code, TREP, day (4), sendings, expected (2), held (4).
+use catalog::AnswerName;
+use octets::big_endian::byte_at;
+use octets::big_endian::number_at;
+use split::SubMessage;
+use tool::Outcome;
+use tool::Request;
+use tool::ToolState;
+ghost use mathlib.Core.Path.{_≡_};
+ghost use Rattle.octets.specs.Buffer.{copied};
+ghost use Rattle.host.specs.Packed.{requestByte, requestFrom, outcomeByte, codeByte, outcomeFrom, packedTool, isTool, noTool, unpackedTool};
+
+// The bytes of a packed state.
+pub(crate) const SIZE: usize = 15;
+
+fn request_byte(request: Request) -> u8
+    ensures { λ r. ⌜ r ≡ requestByte request ⌝ }
+{
+    match request {
+        Request::Start => 0,
+        Request::Session => 1,
+        Request::Upload => 2,
+        Request::Exit => 3,
+        Request::Stop => 4,
+        Request::Transfer => 5,
+    }
+}
+
+pub(crate) fn request_from(byte: u8) -> Request
+    ensures { λ r. ⌜ r ≡ requestFrom byte ⌝ }
+{
+    if byte == 0 {
+        return Request::Start;
+    }
+    if byte == 1 {
+        return Request::Session;
+    }
+    if byte == 2 {
+        return Request::Upload;
+    }
+    if byte == 3 {
+        return Request::Exit;
+    }
+    if byte == 4 {
+        return Request::Stop;
+    }
+    Request::Transfer
+}
+
+fn outcome_byte(outcome: Outcome) -> u8
+    ensures { λ r. ⌜ r ≡ outcomeByte outcome ⌝ }
+{
+    match outcome {
+        Outcome::Fresh => 0,
+        Outcome::Waiting => 1,
+        Outcome::Done => 2,
+        Outcome::NoAnswer => 3,
+        Outcome::NoRoom => 4,
+        Outcome::Refused(_) => 5,
+    }
+}
+
+fn code_byte(outcome: Outcome) -> u8
+    ensures { λ r. ⌜ r ≡ codeByte outcome ⌝ }
+{
+    match outcome {
+        Outcome::Fresh => 0,
+        Outcome::Waiting => 0,
+        Outcome::Done => 0,
+        Outcome::NoAnswer => 0,
+        Outcome::NoRoom => 0,
+        Outcome::Refused(code) => code,
+    }
+}
+
+fn outcome_from(byte: u8, code: u8) -> Outcome
+    ensures { λ r. ⌜ r ≡ outcomeFrom byte code ⌝ }
+{
+    if byte == 0 {
+        return Outcome::Fresh;
+    }
+    if byte == 1 {
+        return Outcome::Waiting;
+    }
+    if byte == 2 {
+        return Outcome::Done;
+    }
+    if byte == 3 {
+        return Outcome::NoAnswer;
+    }
+    if byte == 4 {
+        return Outcome::NoRoom;
+    }
+    Outcome::Refused(code)
+}
+
+// Packs a state into the first 15 bytes of `out`; nothing where it is shorter.
+pub(crate) fn pack(state: ToolState, out: &mut [u8])
+    ensures { λ _. ⌜ now (out .exit) ≡ copied (packedTool state) (now (out .entry)) ⌝ }
+{
+    let request = state.request;
+    let outcome = state.outcome;
+    let day = state.name.day;
+    let expected = state.expected.0;
+    let held = state.held;
+    let bytes = [
+        request_byte(request),
+        outcome_byte(outcome),
+        code_byte(outcome),
+        state.name.trep,
+        (day / 256 / 256 / 256 % 256) as u8,
+        (day / 256 / 256 % 256) as u8,
+        (day / 256 % 256) as u8,
+        (day % 256) as u8,
+        state.sendings,
+        (expected / 256 % 256) as u8,
+        (expected % 256) as u8,
+        (held / 256 / 256 / 256 % 256) as u8,
+        (held / 256 / 256 % 256) as u8,
+        (held / 256 % 256) as u8,
+        (held % 256) as u8,
+    ];
+    octets::buffer::copy_in(out, &bytes);
+}
+
+fn is_state(bytes: &[u8]) -> bool
+    ensures { λ r. ⌜ r ≡ isTool (now (bytes .entry)) ⌝ }
+{
+    if bytes.len() != SIZE {
+        return false;
+    }
+    if 5 < bytes[0] {
+        return false;
+    }
+    if 5 < bytes[1] {
+        return false;
+    }
+    if bytes[1] == 5 {
+        return true;
+    }
+    bytes[2] == 0
+}
+
+fn no_tool() -> ToolState
+    ensures { λ r. ⌜ r ≡ noTool ⌝ }
+{
+    ToolState {
+        request: Request::Start,
+        outcome: Outcome::Waiting,
+        name: AnswerName { trep: 0, day: 0 },
+        sendings: 0,
+        expected: SubMessage(0),
+        held: 0,
+    }
+}
+
+// The state in exactly 15 bytes, or an impossible one where they are no state.
+pub(crate) fn unpack(bytes: &[u8]) -> ToolState
+    ensures { λ r. ⌜ r ≡ unpackedTool (now (bytes .entry)) ⌝ }
+{
+    if !is_state(bytes) {
+        return no_tool();
+    }
+    ToolState {
+        request: request_from(byte_at(bytes, 0)),
+        outcome: outcome_from(byte_at(bytes, 1), byte_at(bytes, 2)),
+        name: AnswerName {
+            trep: byte_at(bytes, 3),
+            day: number_at(bytes, 4, 4),
+        },
+        sendings: byte_at(bytes, 8),
+        expected: SubMessage(crate::fields::two(byte_at(bytes, 9), byte_at(bytes, 10))),
+        held: number_at(bytes, 11, 4),
+    }
+}

@@ -1,0 +1,57 @@
+// The unit on its packed state.
+use octets::Written;
+use octets::numbers::BUFFER_SHORT;
+use octets::numbers::OUT_OF_TURN;
+use unit::UnitReply;
+ghost use mathlib.Core.Path.{_≡_};
+ghost use lib.ListN.{length};
+ghost use Rattle.host.specs.Calls.{unitFreshNumber, unitFreshState, unitHanded, unitKept, unitStep, unitStepReply};
+
+// The state of a unit of this kind that was just switched on. 11 for a kind out of range, 4 for too few bytes.
+#[no_mangle]
+pub extern "C" fn tacho_unit_fresh(kind: u8, state: &mut [u8]) -> u8
+    ensures { λ r. ⌜ r ≡ unitFreshNumber kind (length (now (state .entry))) ⌝ }
+    ensures { λ _. ⌜ now (state .exit) ≡ unitFreshState kind (now (state .entry)) ⌝ }
+{
+    if kind >= catalog::KINDS {
+        return OUT_OF_TURN;
+    }
+    if state.len() < crate::pack_unit::SIZE {
+        return BUFFER_SHORT;
+    }
+    crate::pack_unit::pack(unit::state::fresh(kind), state);
+    0
+}
+
+// What a step hands to the host. The next state is packed only where nothing is refused; then the bytes were a state.
+fn hand(step: UnitReply, state: &mut [u8]) -> Written
+    requires { ⌜ (step .number ≡ 0 → length (now state) ≡ 11) ⌝ }
+    ensures { λ r. ⌜ r ≡ unitHanded step ⌝ }
+    ensures { λ _. ⌜ now (state .exit) ≡ unitKept step (now (state .entry)) ⌝ }
+{
+    let number = step.number;
+    let len = step.len;
+    if number != 0 {
+        return Written { number, len };
+    }
+    let next = step.state;
+    crate::pack_unit::pack(next, state);
+    Written { number, len }
+}
+
+// The unit hears a frame. Refused by 5, 11, 4 and the frame's numbers, in this order; then state and reply stay.
+#[no_mangle]
+pub extern "C" fn tacho_unit_step(
+    state: &mut [u8],
+    store: &[u8],
+    frame: &[u8],
+    reply: &mut [u8],
+) -> Written
+    ensures { λ r. ⌜ r ≡ unitHanded (unitStep (now (state .entry)) (now (store .entry)) (length (now (reply .entry))) (now (frame .entry))) ⌝ }
+    ensures { λ _. ⌜ now (state .exit) ≡ unitKept (unitStep (now (state .entry)) (now (store .entry)) (length (now (reply .entry))) (now (frame .entry))) (now (state .entry)) ⌝ }
+    ensures { λ _. ⌜ now (reply .exit) ≡ unitStepReply (now (state .entry)) (now (store .entry)) (now (frame .entry)) (now (reply .entry)) ⌝ }
+{
+    let was = crate::pack_unit::unpack(state);
+    let step = unit::call::step(was, store, frame, reply);
+    hand(step, state)
+}
