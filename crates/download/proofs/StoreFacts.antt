@@ -18,7 +18,7 @@ use Rattle.catalog.proofs.NameLaws.{same-is}
 use Rattle.store.specs.Layout.{narrow, answers, streamLength, storeLength, entryOffset, entryLength, answerStart, nameAt}
 use Rattle.store.specs.Check.{headerFits, countsFit, placeRight, placesRight, answerRight, answersRight, storeNumber}
 use Rattle.store.specs.Read.{positionFrom, position, lookupNumber, lookupPlace, lookupPart}
-use Rattle.store.proofs.AppendLaws.{unless-zero, or-zero}
+use Rattle.store.proofs.PartLaws.{unless-is, or-zero}
 use Rattle.download.specs.Demand.{Holds}
 
 -- the entry at i has that name, begins with 76 and lies in the stream
@@ -69,10 +69,10 @@ record Unbroken (s : List ℕ) : Type 0 where
 unbroken : (s : List ℕ) → storeNumber narrow s ≡ 0 → Unbroken s
 unfolding storeNumber headerFits countsFit
 unbroken s e =
-    let h = unless-zero _ 5 _ refl e in
-    let c = unless-zero _ 5 _ refl (h .rest) in
-    let p = unless-zero _ 5 _ refl (c .rest) in
-    let r = unless-zero _ 5 _ refl (p .rest) in
+    let h = unless-is _ 5 _ 0 refl e in
+    let c = unless-is _ 5 _ 0 refl (h .rest) in
+    let p = unless-is _ 5 _ 0 refl (c .rest) in
+    let r = unless-is _ 5 _ 0 refl (p .rest) in
     record {
       fits = leb-true _ _ (and-right (leb 4 (length s)) _ (h .first));
       most = leb-true _ _ (and-right (leb (answers narrow s) 64) _ (c .first));
@@ -99,7 +99,7 @@ module _ (s : List ℕ) (name : AnswerName) (z : lookupNumber narrow name s ≡ 
   unfolding lookupNumber
   at-position =
       let u = or-zero (storeNumber narrow s) _ z in
-      let l = unless-zero _ 6 _ refl (u .rest) in
+      let l = unless-is _ 6 _ 0 refl (u .rest) in
       let b = unbroken s (u .first) in
       let i : position narrow name s < answers narrow s = ltb-true _ _ (l .first) in
       found s name (answers narrow s) 0 0 (b .places) (b .right) (omega arith)
