@@ -56,7 +56,7 @@ fn one_more(strings: usize, len: usize) -> usize {
 }
 
 // A copy of the string at the front of a queue, and its length.
-fn taken(q: Queue, line: &[u8], lens: &[usize], copy: &mut [u8]) -> usize {
+fn taken<'a>(q: Queue, line: &'a [u8], lens: &'a [usize], copy: &mut [u8]) -> usize {
     let string = line::front(q, line, lens);
     octets::buffer::copy_in(copy, string);
     string.len()
@@ -200,7 +200,7 @@ fn events(
     lens: &mut [usize],
 ) -> Session {
     let mut now = s;
-    let mut i = 0;
+    let mut i: usize = 0;
     while i < 200 {
         let to_unit = now.to_unit;
         let to_tool = now.to_tool;

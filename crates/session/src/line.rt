@@ -1,6 +1,7 @@
 // A queue of strings in memory, one for each direction: eight slots of 260 bytes in a ring.
 use crate::print;
 use octets::Place;
+ghost use Prim.Native.Nat.{_<_};
 
 const SLOT: usize = 260;
 
@@ -14,7 +15,9 @@ pub struct Queue {
 }
 
 // The slot of the k-th string.
-fn slot(q: Queue, k: usize) -> usize {
+fn slot(q: Queue, k: usize) -> usize
+    ensures { λ r. ⌜ r < 16 ⌝ }
+{
     let first = q.first % SLOTS;
     q.base % 9 + (first + k % SLOTS) % SLOTS
 }

@@ -8,44 +8,40 @@ use catalog::AnswerName;
 use ends::Session;
 use tool::Request;
 
-fn fixed(
-    session: Session,
-    request: Request,
-    store: &[u8],
-    room: &mut [u8],
-    line: &mut [u8],
-    lens: &mut [usize],
-) -> Session {
-    ends::run(
-        session,
-        request,
-        AnswerName { trep: 0, day: 0 },
-        store,
-        room,
-        line,
-        lens,
-    )
+// The requests of a download, in order; the fourth to the sixth are transfers.
+fn request_at(k: usize) -> Request {
+    match k {
+        0 => Request::Start,
+        1 => Request::Session,
+        2 => Request::Upload,
+        6 => Request::Exit,
+        7 => Request::Stop,
+        _ => Request::Transfer,
+    }
 }
 
-// One answer: what the tool holds then is what the store has.
-fn transfer(
-    session: Session,
-    name: AnswerName,
-    store: &[u8],
-    room: &mut [u8],
-    line: &mut [u8],
-    lens: &mut [usize],
-) -> Session {
-    let after = ends::run(session, Request::Transfer, name, store, room, line, lens);
-    print::text(b"held ");
-    let state = after.tool;
-    let held = state.held as usize;
-    print::number(held);
+fn name_at(k: usize) -> AnswerName {
+    match k {
+        4 => AnswerName { trep: 0x31, day: 0 },
+        5 => AnswerName {
+            trep: 0x32,
+            day: 86400,
+        },
+        _ => AnswerName { trep: 0, day: 0 },
+    }
+}
+
+// Whether what the tool holds is the answer of the store.
+fn compared(session: Session, name: AnswerName, store: &[u8], room: &[u8]) {
+    let tool = session.tool;
+    let held = tool.held as usize;
     let place = octets::Place {
         number: 0,
         start: 0,
         len: held,
     };
+    print::text(b"held ");
+    print::number(held);
     if octets::buffer::same(
         octets::buffer::part(room, place),
         store::read::lookup(store, name),
@@ -54,7 +50,36 @@ fn transfer(
     } else {
         print::text(b" bytes, not the answer of the store\n");
     }
+}
+
+fn step(
+    session: Session,
+    k: usize,
+    store: &[u8],
+    room: &mut [u8],
+    line: &mut [u8],
+    lens: &mut [usize],
+) -> Session {
+    let name = name_at(k);
+    let after = ends::run(session, request_at(k), name, store, room, line, lens);
+    if 3 <= k && k < 6 {
+        compared(after, name, store, room);
+    }
     after
+}
+
+fn steps(store: &[u8], room: &mut [u8], line: &mut [u8], lens: &mut [usize]) {
+    let mut session = ends::fresh();
+    let mut k: usize = 0;
+    while k < 8 {
+        session = step(session, k, store, room, line, lens);
+        k += 1;
+    }
+}
+
+fn download(store: &mut [u8], room: &mut [u8], line: &mut [u8], lens: &mut [usize]) {
+    sample::fill(store);
+    steps(store, room, line, lens);
 }
 
 fn main() {
@@ -62,38 +87,5 @@ fn main() {
     let mut room = [0u8; 4096];
     let mut line = [0u8; 4160];
     let mut lens = [0usize; 16];
-    sample::fill(&mut store);
-    let mut s = ends::fresh();
-    s = fixed(s, Request::Start, &store, &mut room, &mut line, &mut lens);
-    s = fixed(s, Request::Session, &store, &mut room, &mut line, &mut lens);
-    s = fixed(s, Request::Upload, &store, &mut room, &mut line, &mut lens);
-    s = transfer(
-        s,
-        AnswerName { trep: 0x00, day: 0 },
-        &store,
-        &mut room,
-        &mut line,
-        &mut lens,
-    );
-    s = transfer(
-        s,
-        AnswerName { trep: 0x31, day: 0 },
-        &store,
-        &mut room,
-        &mut line,
-        &mut lens,
-    );
-    s = transfer(
-        s,
-        AnswerName {
-            trep: 0x32,
-            day: 86400,
-        },
-        &store,
-        &mut room,
-        &mut line,
-        &mut lens,
-    );
-    s = fixed(s, Request::Exit, &store, &mut room, &mut line, &mut lens);
-    fixed(s, Request::Stop, &store, &mut room, &mut line, &mut lens);
+    download(&mut store, &mut room, &mut line, &mut lens);
 }
