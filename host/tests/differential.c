@@ -395,7 +395,7 @@ static void tools(void)
 
 int main(int argc, char **argv)
 {
-    unsigned long rounds = argc > 1 ? strtoul(argv[1], NULL, 10) : 20000;
+    unsigned long rounds = argc > 1 ? strtoul(argv[1], NULL, 10) : 60000;
     uint64_t seed = argc > 2 ? strtoull(argv[2], NULL, 10) : (uint64_t)time(NULL);
     random_seed(seed);
     printf("differential: seed %llu\n", (unsigned long long)seed);

@@ -225,7 +225,7 @@ static void clean_line(void)
 
 int main(int argc, char **argv)
 {
-    unsigned long transfers = argc > 1 ? strtoul(argv[1], NULL, 10) : 1500;
+    unsigned long transfers = argc > 1 ? strtoul(argv[1], NULL, 10) : 6000;
     uint64_t seed = argc > 2 ? strtoull(argv[2], NULL, 10) : (uint64_t)time(NULL);
     random_seed(seed);
     printf("download: seed %llu\n", (unsigned long long)seed);
