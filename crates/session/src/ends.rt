@@ -17,7 +17,7 @@ pub struct Session {
     pub strings: usize,
 }
 
-pub fn fresh() -> Session {
+pub(crate) fn fresh() -> Session {
     let unit = unit::state::fresh(2);
     let tool = tool::state::fresh();
     let to_unit = Queue {
@@ -214,7 +214,7 @@ fn events(
 }
 
 // One request, begun on an empty line and carried to its end.
-pub fn run(
+pub(crate) fn run(
     s: Session,
     request: Request,
     name: AnswerName,

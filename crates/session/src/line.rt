@@ -23,7 +23,7 @@ fn slot(q: Queue, k: usize) -> usize
 }
 
 // The string at the front; empty where there is none.
-pub fn front<'a>(q: Queue, line: &'a [u8], lens: &'a [usize]) -> &'a [u8] {
+pub(crate) fn front<'a>(q: Queue, line: &'a [u8], lens: &'a [usize]) -> &'a [u8] {
     let i = slot(q, 0);
     let mut len = 0;
     if 0 < q.count {
@@ -39,7 +39,7 @@ pub fn front<'a>(q: Queue, line: &'a [u8], lens: &'a [usize]) -> &'a [u8] {
     octets::buffer::part(line, place)
 }
 
-pub fn without_front(q: Queue) -> Queue {
+pub(crate) fn without_front(q: Queue) -> Queue {
     if q.count == 0 {
         return q;
     }
@@ -95,7 +95,13 @@ fn spoil(q: Queue, line: &mut [u8], lens: &mut [usize]) {
 }
 
 // Puts the k-th string of the session on the line: some are lost, repeated or spoiled.
-pub fn put_out(q: Queue, line: &mut [u8], lens: &mut [usize], string: &[u8], k: usize) -> Queue {
+pub(crate) fn put_out(
+    q: Queue,
+    line: &mut [u8],
+    lens: &mut [usize],
+    string: &[u8],
+    k: usize,
+) -> Queue {
     if string.len() == 0 {
         return q;
     }

@@ -27,7 +27,7 @@ fn put(store: &mut [u8], trep: u8, day: u32, len: usize) {
     store::append::append(store, octets::buffer::part(&answer, place), day);
 }
 
-pub fn fill(store: &mut [u8]) {
+pub(crate) fn fill(store: &mut [u8]) {
     put(store, 0x00, 0, 2);
     put(store, 0x31, 0, 900);
     put(store, 0x32, 86400, 502);

@@ -87,7 +87,7 @@ fn filled() -> [u8; 60000] {
     data
 }
 
-pub fn lengths() {
+pub(crate) fn lengths() {
     let data = filled();
     let mut room = [0u8; 60000];
     answer(&data, 252, &mut room);

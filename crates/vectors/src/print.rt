@@ -1,11 +1,11 @@
 // Text, numbers and bytes on standard output.
 use libc::STDOUT_FILENO;
 
-pub fn text(s: &[u8]) {
+pub(crate) fn text(s: &[u8]) {
     io::write_all(STDOUT_FILENO, s);
 }
 
-pub fn number(n: usize) {
+pub(crate) fn number(n: usize) {
     io::print_decimal(STDOUT_FILENO, n as u64);
 }
 
@@ -20,7 +20,7 @@ fn digit(n: u8) -> u8 {
 }
 
 // Each byte in hexadecimal, a blank before it.
-pub fn bytes(s: &[u8]) {
+pub(crate) fn bytes(s: &[u8]) {
     let mut i = 0;
     while i < s.len() {
         let b = s[i];

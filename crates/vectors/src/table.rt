@@ -68,7 +68,7 @@ fn start() {
     same(&out, bytes);
 }
 
-pub fn requests() {
+pub(crate) fn requests() {
     start();
     whole(
         b"start diagnostic session",
@@ -127,7 +127,7 @@ pub fn requests() {
     );
 }
 
-pub fn transfer_requests() {
+pub(crate) fn transfer_requests() {
     of_data(b"overview", b"\x36\x01", End::Unit);
     of_data(b"overview", b"\x36\x21", End::Unit);
     of_data(b"overview", b"\x36\x31", End::Unit);
@@ -147,12 +147,12 @@ pub fn transfer_requests() {
     of_data(b"card download", b"\x36\x06\x02", End::Unit);
 }
 
-pub fn acknowledgements() {
+pub(crate) fn acknowledgements() {
     of_data(b"acknowledge sub message", b"\x83\x76\x00\x02", End::Unit);
     of_data(b"acknowledge sub message", b"\x83\x76\xff\xff", End::Unit);
 }
 
-pub fn responses() {
+pub(crate) fn responses() {
     whole(
         b"positive response start communication",
         b"\x80\xf0\xee\x03\xc1\xea\x8f\x9b",
@@ -204,7 +204,7 @@ const TREPS: [u8; 15] = [
 ];
 
 // One data byte for each TREP of the table.
-pub fn transfer_responses() {
+pub(crate) fn transfer_responses() {
     let mut i = 0;
     while i < 15 {
         let data = [0x76, TREPS[i], 0x5A];
@@ -227,7 +227,7 @@ fn negative_responses_to(sid: u8) {
 }
 
 // Every code of the table to every request.
-pub fn negative_responses() {
+pub(crate) fn negative_responses() {
     let mut i = 0;
     while i < 8 {
         negative_responses_to(SIDS[i]);
