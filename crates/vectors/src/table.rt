@@ -68,13 +68,16 @@ fn start() {
     same(&out, bytes);
 }
 
-pub(crate) fn requests() {
+fn session_requests() {
     start();
     whole(
         b"start diagnostic session",
         b"\x80\xee\xf0\x02\x10\x81\xf1",
         End::Unit,
     );
+}
+
+fn low_rates() {
     whole(
         b"verify 9600 Bd",
         b"\x80\xee\xf0\x04\x87\x01\x01\x01\xec",
@@ -90,6 +93,9 @@ pub(crate) fn requests() {
         b"\x80\xee\xf0\x04\x87\x01\x01\x03\xee",
         End::Unit,
     );
+}
+
+fn high_rates() {
     whole(
         b"verify 57600 Bd",
         b"\x80\xee\xf0\x04\x87\x01\x01\x04\xef",
@@ -105,6 +111,9 @@ pub(crate) fn requests() {
         b"\x80\xee\xf0\x03\x87\x02\x03\xed",
         End::Unit,
     );
+}
+
+fn upload_requests() {
     whole(
         b"request upload",
         b"\x80\xee\xf0\x0a\x35\x00\x00\x00\x00\x00\xff\xff\xff\xff\x99",
@@ -127,24 +136,60 @@ pub(crate) fn requests() {
     );
 }
 
+pub(crate) fn requests() {
+    session_requests();
+    low_rates();
+    high_rates();
+    upload_requests();
+}
+
+// A transfer request without a day.
+fn transfer(name: &[u8], trtp: u8) {
+    let data = [0x36, trtp];
+    of_data(name, &data, End::Unit);
+}
+
+// The activities of 2 January 1970.
+fn activities(trtp: u8) {
+    let data = [0x36, trtp, 0x00, 0x01, 0x51, 0x80];
+    of_data(b"activities", &data, End::Unit);
+}
+
+fn slot(number: u8) {
+    let data = [0x36, 0x06, number];
+    of_data(b"card download", &data, End::Unit);
+}
+
+fn overviews() {
+    transfer(b"overview", 0x01);
+    transfer(b"overview", 0x21);
+    transfer(b"overview", 0x31);
+    activities(0x02);
+    activities(0x22);
+    activities(0x32);
+}
+
+fn events() {
+    transfer(b"events and faults", 0x03);
+    transfer(b"events and faults", 0x23);
+    transfer(b"events and faults", 0x33);
+    transfer(b"detailed speed", 0x04);
+    transfer(b"detailed speed", 0x24);
+}
+
+fn technical_data() {
+    transfer(b"technical data", 0x05);
+    transfer(b"technical data", 0x25);
+    transfer(b"technical data", 0x35);
+    transfer(b"card download", 0x06);
+    slot(1);
+    slot(2);
+}
+
 pub(crate) fn transfer_requests() {
-    of_data(b"overview", b"\x36\x01", End::Unit);
-    of_data(b"overview", b"\x36\x21", End::Unit);
-    of_data(b"overview", b"\x36\x31", End::Unit);
-    of_data(b"activities", b"\x36\x02\x00\x01\x51\x80", End::Unit);
-    of_data(b"activities", b"\x36\x22\x00\x01\x51\x80", End::Unit);
-    of_data(b"activities", b"\x36\x32\x00\x01\x51\x80", End::Unit);
-    of_data(b"events and faults", b"\x36\x03", End::Unit);
-    of_data(b"events and faults", b"\x36\x23", End::Unit);
-    of_data(b"events and faults", b"\x36\x33", End::Unit);
-    of_data(b"detailed speed", b"\x36\x04", End::Unit);
-    of_data(b"detailed speed", b"\x36\x24", End::Unit);
-    of_data(b"technical data", b"\x36\x05", End::Unit);
-    of_data(b"technical data", b"\x36\x25", End::Unit);
-    of_data(b"technical data", b"\x36\x35", End::Unit);
-    of_data(b"card download", b"\x36\x06", End::Unit);
-    of_data(b"card download", b"\x36\x06\x01", End::Unit);
-    of_data(b"card download", b"\x36\x06\x02", End::Unit);
+    overviews();
+    events();
+    technical_data();
 }
 
 pub(crate) fn acknowledgements() {
