@@ -1,13 +1,13 @@
 -- Names: what number 0 says, and equality of names.
 use mathlib.Core.Path.{_≡_, refl, ap₂}
-use mathlib.Core.Bool.{Bool, true, false, cond}
+use mathlib.Core.Bool.{true, false}
 use Prim.Native.Nat.{ℕ}
-use native.Mathlib.Omega.{arith}
 use lib.Dec.{eqb}
-use borrow.Author.Tests.{eq-eqb, eqb-true}
-use Rattle.octets.proofs.Tests.{and-left, and-right}
-use Rattle.catalog.specs.Table.{listed, isActivities}
-use Rattle.catalog.specs.Name.{firstSecond, dayNamed, sameAnswer, nameNumber}
+use borrow.Author.Tests.{eq-eqb, ne-eqb, eqb-true}
+use Rattle.octets.proofs.Tests.{and-left, and-right, and-false}
+use Rattle.octets.proofs.OrderLaws.{unless-is}
+use Rattle.catalog.specs.Table.{listed}
+use Rattle.catalog.specs.Name.{dayNamed, sameAnswer, nameNumber}
 use Rattle.catalog.specs.declared.AnswerName.{AnswerName}
 
 pub same-self : (a : AnswerName) → sameAnswer a a ≡ true
@@ -25,12 +25,14 @@ same-is a b h =
     let d : a .day ≡ b .day = eqb-true _ _ (and-right (eqb (a .trep) (b .trep)) _ h) in
     ap₂ named t d
 
-allowed-tests : (l d : Bool) → _≡_ {A = ℕ} (cond l (cond d 0 12) 12) 0 → (l ≡ true) × (d ≡ true)
-allowed-tests true true e = (refl, refl)
-allowed-tests true false e = absurd (omega arith)
-allowed-tests false d e = absurd (omega arith)
+-- names of different days are different answers
+pub other-day : (a b : AnswerName) → (a .day ≡ b .day → ⊥) → sameAnswer a b ≡ false
+unfolding sameAnswer
+other-day a b h = and-false (eqb (a .trep) (b .trep)) _ (ne-eqb (a .day) (b .day) h)
 
 -- a name that 12 allows is listed and its day may be named
 pub allowed : (name : AnswerName) → nameNumber name ≡ 0 → (listed (name .trep) ≡ true) × (dayNamed name ≡ true)
 unfolding nameNumber
-allowed name e = allowed-tests (listed (name .trep)) (dayNamed name) e
+allowed name e =
+    let l = unless-is (listed (name .trep)) 12 _ 0 refl e in
+    (l .first, unless-is (dayNamed name) 12 0 0 refl (l .rest) .first)

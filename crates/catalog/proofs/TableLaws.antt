@@ -1,6 +1,6 @@
 -- The constant table of the code is the table of document 01, entry by entry; and the search of a column.
-use mathlib.Core.Path.{_≡_, refl, sym, ap, _∙_}
-use mathlib.Core.Bool.{Bool, true, false, not, _&&_, _||_}
+use mathlib.Core.Path.{_≡_, refl, sym, _∙_}
+use mathlib.Core.Bool.{Bool, true, false, _||_}
 use mathlib.Core.List.{List, [], _∷_}
 use Prim.Native.Nat.{ℕ, zero, suc, _+_, _*_, _-_, _/_, _%_, _<_, _≤_}
 use native.Mathlib.Omega.{arith}
@@ -10,7 +10,7 @@ use lib.ListN.{length, getD, drop, List·getD-eq-default, drop-of-length-le}
 use lib.Seq.{drop-cons}
 use borrow.Author.Tests.{eq-eqb, ne-eqb, eqb-true}
 use Rattle.catalog.specs.Table.{absent, rows, trtpOf, inColumn, knownTo, isActivities}
-use Rattle.catalog.proofs.Entries.{every, at-entry}
+use Rattle.catalog.proofs.Entries.{at-entry}
 
 -- the constant of the code
 abbrev pub table : List ℕ

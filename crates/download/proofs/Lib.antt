@@ -5,6 +5,7 @@ pub mod UnitFacts
 pub mod ToolFacts
 pub mod Theorem
 pub mod Calls
+pub mod Runs
 pub mod Witness
 pub mod TradeCases
 pub mod Consequences

@@ -5,25 +5,12 @@ use mathlib.Core.List.{List, [], _∷_, _++_}
 use mathlib.Core.Path.{_≡_, refl}
 use lib.Dec.{leb}
 use lib.ListN.{replicate}
-use Rattle.octets.specs.BigEndian.{numberAt}
-use Rattle.octets.specs.Buffer.{front, put}
-use Rattle.frame.specs.Frame.{lab, closed, frameOf, countRight, startRight, addressed, checksumRight, judged, dataPlace, dataOf}
-use Rattle.catalog.specs.Table.{knownTo, listed, isActivities}
-use Rattle.catalog.specs.Name.{firstSecond, dayNamed, sameAnswer, nameNumber}
+use Rattle.frame.specs.Frame.{lab}
 use Rattle.catalog.specs.declared.AnswerName.{AnswerName}
 use Rattle.split.specs.Codes.{sub}
-use Rattle.split.specs.Split.{countOf, carries, subField, subFrame}
-use Rattle.split.specs.Join.{isAnswer, receivedAs}
-use Rattle.store.specs.Layout.{nameAt}
-use Rattle.store.specs.Check.{headerFits, countsFit, placeRight, placesRight, answerRight, answersRight, namedFrom, namesDiffer, storeNumber}
-use Rattle.store.specs.Read.{positionFrom, lookupNumber, lookupPlace, lookupPart}
-use Rattle.unit.specs.State.{sendable, phasePossible, possible}
-use Rattle.unit.specs.Services.{requestName, answerFrom, onTransfer, onCode, onSending, onAcknowledge}
-use Rattle.unit.specs.Call.{onData, reactionTo, stateAfter as unitAfter, replyData, replyTo, unitNumber, unitState, unitReply, unitResult}
-use Rattle.tool.specs.State.{freshTool, heldRight, transferPossible, possible as toolPossible}
-use Rattle.tool.specs.Sent.{transferRequest, acknowledgement, transferData, frameSent, sidSent}
-use Rattle.tool.specs.Event.{newBytes, fits, meaningOf, transferMeaning, isRefusal, refusalMeaning, dataMeaning, arrivalMeaning, arrivalBytes, afterFailedWait, stateAfter, sentAfter, roomAfter}
-use Rattle.tool.specs.Call.{requestNumber, beginNumber, beginState, beginSent, beginResult, eventNumber, eventState, eventSent, eventRoom, eventResult}
+use Rattle.split.specs.Split.{countOf, subFrame}
+use Rattle.unit.specs.State.{possible}
+use Rattle.tool.specs.State.{freshTool}
 use Rattle.octets.specs.Buffer.{sameBytes}
 use Rattle.unit.specs.declared.UnitState.{UnitState}
 use Rattle.unit.specs.declared.Phase.{Phase}
@@ -36,6 +23,7 @@ use Rattle.line.specs.Book as books
 use Rattle.line.specs.Book.{Run, run, start}
 use Rattle.download.specs.CableEnds.{UnitGiven, cableEnds, toolBegun, refused}
 use Rattle.download.specs.TradeCases.{store12}
+use Rattle.download.proofs.Runs.{calls}
 
 abbrev interface : AnswerName
 interface = record { trep = 0x00; day = 0 }
@@ -111,7 +99,7 @@ record Needed : Type 0 where
   early : Apart (after (v2 Granted) four 260 (waitEnds 260 ∷ waitEnds 260 ∷ waitEnds 260 ∷ [])) NoAnswer books.noAnswer
 
 needed : Needed
-unfolding numberAt nameAt headerFits countsFit placeRight placesRight answerRight answersRight namedFrom namesDiffer storeNumber positionFrom lookupNumber lookupPlace lookupPart knownTo listed isActivities firstSecond dayNamed sameAnswer nameNumber closed frameOf countRight startRight addressed checksumRight judged dataPlace dataOf countOf carries subField subFrame possible sendable phasePossible requestName answerFrom onTransfer onCode onSending onAcknowledge onData reactionTo unitAfter replyData replyTo unitNumber unitState unitReply unitResult transferRequest acknowledgement transferData frameSent sidSent heldRight transferPossible toolPossible requestNumber beginNumber beginState beginSent beginResult isAnswer receivedAs newBytes fits meaningOf transferMeaning isRefusal refusalMeaning dataMeaning arrivalMeaning arrivalBytes afterFailedWait stateAfter sentAfter roomAfter eventNumber eventState eventSent eventRoom eventResult front put
+unfolding calls
 needed =
     record {
       accepted = (refl, refl);

@@ -7,21 +7,17 @@ use native.Mathlib.Omega.{arith}
 use lib.ListN.{length, drop, replicate, length-drop}
 use borrow.Author.Tests.{le-leb}
 use Rattle.octets.specs.Order.{unless}
-use Rattle.octets.specs.BigEndian.{numberAt}
 use Rattle.octets.specs.Buffer.{front}
-use Rattle.frame.specs.Frame.{lab, closed, frameOf, countRight, startRight, addressed, checksumRight, judged, dataPlace, dataOf}
+use Rattle.frame.specs.Frame.{lab, closed, frameOf, judged}
 use Rattle.frame.specs.declared.End.the-variants as ends
 use Rattle.frame.proofs.Theorems.{write-then-check}
 use Rattle.catalog.specs.declared.AnswerName.{AnswerName}
-use Rattle.catalog.specs.Table.{knownTo, listed, isActivities}
-use Rattle.catalog.specs.Name.{firstSecond, dayNamed, sameAnswer, nameNumber}
 use Rattle.split.specs.Codes.{sub, acknowledgeOf}
-use Rattle.split.specs.Split.{countOf, carries, subField, subFrame}
+use Rattle.split.specs.Split.{countOf, subField, subFrame}
 use Rattle.split.specs.Join.{framesFrom}
 use Rattle.split.proofs.Theorems.{split-252, split-253, split-501, split-502}
-use Rattle.store.specs.Layout.{narrow, nameAt}
-use Rattle.store.specs.Check.{headerFits, countsFit, placeRight, placesRight, answerRight, answersRight, namedFrom, namesDiffer, storeNumber}
-use Rattle.store.specs.Read.{positionFrom, lookupNumber, lookupPlace, lookupPart}
+use Rattle.store.specs.Layout.{narrow}
+use Rattle.store.specs.Read.{lookupNumber, lookupPlace, lookupPart}
 use Rattle.store.proofs.ReadLaws.{number-of-place}
 use Rattle.store.specs.Append.{answerNumber, roomNumber, appendNumber, withAnswer, appendOut}
 use Rattle.unit.specs.declared.UnitState.{UnitState}
@@ -29,11 +25,12 @@ use Rattle.unit.specs.declared.Phase.the-variants.{Started, Session, Granted, S
 use Rattle.unit.specs.declared.Reaction.{Reaction}
 use Rattle.unit.specs.declared.Reaction.the-variants.{SessionOpened, UploadGranted, AnswerSent, Negative}
 use Rattle.unit.specs.State.{isClosed, isGranted, possible}
-use Rattle.unit.specs.Services.{onSession, onUpload, requestName, answerFrom, onTransfer}
+use Rattle.unit.specs.Services.{onSession, onUpload, answerFrom}
 use Rattle.unit.specs.Call.{onData, reactionTo, replyData, replyTo, unitReply}
 use Rattle.tool.specs.declared.Request.the-variants as requests
 use Rattle.tool.specs.Sent.{transferRequest, acknowledgement, transferData, frameSent}
 use Rattle.download.specs.TradeCases.{Called, Asked, lens, store12, TradeCases}
+use Rattle.download.proofs.Runs.{lookups, calls}
 use Rattle.download.proofs.StoreFacts.{held-place}
 use Rattle.download.proofs.FrameFacts.{asked-some, asked-most, asked-good, count-most}
 use Rattle.download.proofs.ServiceFacts.{ranges, sending-held, granted-open, request-first, transfer-asked, past-last, not-refused, heard}
@@ -45,21 +42,21 @@ module _ (store : List ℕ) (u : UnitState) (room : ℕ) (c : Called store u roo
   reply b r j e = rw (not-refused lab store u room b (c .unbroken) (c .possible) (le-leb 260 room (c .roomy)) j, e)
 
   w1 : u .phase ≡ Started → unitReply lab store room u (0x80 ∷ 0xEE ∷ 0xF0 ∷ 0x02 ∷ 0x10 ∷ 0x81 ∷ 0xF1 ∷ []) ≡ 0x80 ∷ 0xF0 ∷ 0xEE ∷ 0x02 ∷ 0x50 ∷ 0x81 ∷ 0x31 ∷ []
-  unfolding closed frameOf countRight startRight addressed checksumRight judged dataPlace dataOf onSession onData reactionTo replyData replyTo
+  unfolding calls onSession
   w1 p = reply (0x80 ∷ 0xEE ∷ 0xF0 ∷ 0x02 ∷ 0x10 ∷ 0x81 ∷ 0xF1 ∷ []) SessionOpened refl (rw p)
 
   w2 : u .phase ≡ Session → unitReply lab store room u (0x80 ∷ 0xEE ∷ 0xF0 ∷ 0x0A ∷ 0x35 ∷ 0x00 ∷ 0x00 ∷ 0x00 ∷ 0x00 ∷ 0x00 ∷ 0xFF ∷ 0xFF ∷ 0xFF ∷ 0xFF ∷ 0x99 ∷ []) ≡ 0x80 ∷ 0xF0 ∷ 0xEE ∷ 0x03 ∷ 0x75 ∷ 0x00 ∷ 0xFF ∷ 0xD5 ∷ []
-  unfolding closed frameOf countRight startRight addressed checksumRight judged dataPlace dataOf onUpload onData reactionTo replyData replyTo
+  unfolding calls onUpload
   w2 p = reply (0x80 ∷ 0xEE ∷ 0xF0 ∷ 0x0A ∷ 0x35 ∷ 0x00 ∷ 0x00 ∷ 0x00 ∷ 0x00 ∷ 0x00 ∷ 0xFF ∷ 0xFF ∷ 0xFF ∷ 0xFF ∷ 0x99 ∷ []) UploadGranted refl (rw p)
 
 w3-reaction : (u : UnitState) → u .kind ≡ 2 → u .phase ≡ Granted
     → reactionTo lab store12 u (0x80 ∷ 0xEE ∷ 0xF0 ∷ 0x02 ∷ 0x36 ∷ 0x00 ∷ 0x96 ∷ []) ≡ AnswerSent (record { trep = 0x00; day = 0 }) (sub 1) (record { number = 0; start = 12; len = 4 })
-unfolding numberAt nameAt headerFits countsFit placeRight placesRight answerRight answersRight namedFrom namesDiffer storeNumber positionFrom lookupNumber lookupPlace knownTo listed isActivities firstSecond dayNamed sameAnswer nameNumber countRight startRight addressed checksumRight judged dataPlace dataOf requestName answerFrom onTransfer onData reactionTo
+unfolding calls
 w3-reaction u k p = rw (k, p)
 
 w3 : (u : UnitState) (room : ℕ) → Called store12 u room → u .kind ≡ 2 → u .phase ≡ Granted
     → unitReply lab store12 room u (0x80 ∷ 0xEE ∷ 0xF0 ∷ 0x02 ∷ 0x36 ∷ 0x00 ∷ 0x96 ∷ []) ≡ 0x80 ∷ 0xF0 ∷ 0xEE ∷ 0x04 ∷ 0x76 ∷ 0x00 ∷ 0x02 ∷ 0x02 ∷ 0xDC ∷ []
-unfolding closed frameOf countRight startRight addressed checksumRight judged carries subField replyData replyTo
+unfolding calls
 w3 u room c k p = reply store12 u room c (0x80 ∷ 0xEE ∷ 0xF0 ∷ 0x02 ∷ 0x36 ∷ 0x00 ∷ 0x96 ∷ []) _ refl (w3-reaction u k p)
 
 w11 : (name : AnswerName) → frameSent lab requests.Transfer name 2 ≡ 0x80 ∷ 0xEE ∷ 0xF0 ∷ 0x04 ∷ 0x83 ∷ 0x76 ∷ 0x00 ∷ 0x02 ∷ 0x5D ∷ []
@@ -67,7 +64,7 @@ unfolding acknowledgement transferData frameSent closed frameOf
 w11 name = refl
 
 w12 : appendOut narrow (0x76 ∷ 0x00 ∷ 0x02 ∷ 0x02 ∷ []) 0 (replicate 16 0x00) ≡ store12
-unfolding numberAt nameAt headerFits countsFit placesRight answersRight namesDiffer storeNumber positionFrom knownTo listed isActivities firstSecond dayNamed nameNumber answerNumber roomNumber appendNumber withAnswer appendOut front
+unfolding lookups answerNumber roomNumber appendNumber withAnswer appendOut front
 w12 = refl
 
 -- W7 to W10: LEN is the length of the data field

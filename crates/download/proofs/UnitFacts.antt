@@ -19,7 +19,7 @@ use Rattle.split.specs.Split.{isSplit, countOf, subField, subFrame}
 use Rattle.store.specs.Layout.{narrow}
 use Rattle.store.specs.Check.{storeNumber}
 use Rattle.store.specs.Read.{lookupNumber, lookupPlace, lookupPart}
-use Rattle.store.proofs.PartLaws.{or-zero}
+use Rattle.octets.proofs.OrderLaws.{or-zero}
 use Rattle.unit.specs.declared.Phase.{Phase}
 use Rattle.unit.specs.declared.Phase.the-variants.{Closed, Started, Session, Granted, Sending}
 use Rattle.unit.specs.declared.UnitState.{UnitState}

@@ -5,35 +5,28 @@ use mathlib.Core.List.{List, [], _∷_, _++_}
 use mathlib.Core.Path.{_≡_, refl}
 use native.Mathlib.Omega.{arith}
 use lib.ListN.{replicate}
-use Rattle.octets.specs.BigEndian.{numberAt}
-use Rattle.octets.specs.Buffer.{front, put}
-use Rattle.frame.specs.Frame.{lab, closed, frameOf, countRight, startRight, addressed, checksumRight, judged, dataPlace, dataOf}
+use Rattle.frame.specs.Frame.{lab}
 use Rattle.catalog.specs.Table.{knownTo, listed, isActivities}
-use Rattle.catalog.specs.Name.{firstSecond, dayNamed, sameAnswer, nameNumber}
+use Rattle.catalog.specs.Name.{firstSecond, dayNamed, nameNumber}
 use Rattle.catalog.specs.declared.AnswerName.{AnswerName}
 use Rattle.split.specs.Codes.{sub}
-use Rattle.split.specs.Split.{countOf, carries, subField, subFrame}
-use Rattle.split.specs.Join.{isAnswer, receivedAs}
-use Rattle.store.specs.Layout.{narrow, nameAt}
-use Rattle.store.specs.Check.{headerFits, countsFit, placeRight, placesRight, answerRight, answersRight, namedFrom, namesDiffer, storeNumber}
-use Rattle.store.specs.Read.{positionFrom, lookupNumber, lookupPlace, lookupPart}
+use Rattle.split.specs.Split.{countOf}
+use Rattle.store.specs.Layout.{narrow}
+use Rattle.store.specs.Read.{lookupPart}
 use Rattle.unit.specs.declared.UnitState.{UnitState}
 use Rattle.unit.specs.declared.Phase.{Phase}
 use Rattle.unit.specs.declared.Phase.the-variants.{Granted, Sending}
 use Rattle.unit.specs.State.{sendable, phasePossible, possible}
-use Rattle.unit.specs.Services.{requestName, answerFrom, onTransfer, onCode, onSending, onAcknowledge}
-use Rattle.unit.specs.Call.{onData, reactionTo, stateAfter as unitAfter, replyData, replyTo, unitNumber, unitState, unitReply, unitResult}
 use Rattle.tool.specs.declared.Request.the-variants.{Transfer}
 use Rattle.tool.specs.declared.Outcome.the-variants.{Done, NoAnswer}
-use Rattle.tool.specs.State.{freshTool, heldRight, transferPossible, possible as toolPossible}
-use Rattle.tool.specs.Sent.{transferRequest, acknowledgement, transferData, frameSent, sidSent}
-use Rattle.tool.specs.Event.{newBytes, fits, meaningOf, transferMeaning, isRefusal, refusalMeaning, dataMeaning, arrivalMeaning, arrivalBytes, afterFailedWait, stateAfter, sentAfter, roomAfter}
-use Rattle.tool.specs.Call.{requestNumber, beginNumber, beginState, beginSent, beginResult, eventNumber, eventState, eventSent, eventRoom, eventResult}
+use Rattle.tool.specs.State.{freshTool}
+use Rattle.tool.specs.Call.{requestNumber, beginNumber}
 use Rattle.line.specs.Line.{unitEnd, toolEnd, lost, repeated, spoiled, Event, arrivesAtUnit, arrivesAtTool, waitEnds, lineChanges, beginRefused}
 use Rattle.line.specs.Book.{Run, run, start, done}
 use Rattle.line.specs.Premises.{AllAllowed, AllClean}
 use Rattle.download.specs.CableEnds.{UnitGiven, cableEnds}
 use Rattle.download.specs.Demand.{Holds, Premises, CallPremise, transfer, Agrees, AgreesClean}
+use Rattle.download.proofs.Runs.{lookups, calls}
 use Rattle.download.proofs.Theorem.{demand3}
 
 abbrev overview : AnswerName
@@ -52,16 +45,16 @@ abbrev unit : Phase → UnitState
 unit phase = record { kind = 2; rate = 1; pending = 3; phase = phase }
 
 holds-overview : Holds store overview (0x76 ∷ 0x31 ∷ replicate 502 0x07)
-unfolding numberAt nameAt headerFits countsFit placeRight placesRight answerRight answersRight namedFrom namesDiffer storeNumber positionFrom lookupNumber lookupPlace lookupPart knownTo listed isActivities firstSecond dayNamed sameAnswer nameNumber
+unfolding lookups
 holds-overview = record { held = refl; bytes = refl }
 
 holds-interface : Holds store interface (0x76 ∷ 0x00 ∷ 0x02 ∷ 0x02 ∷ [])
-unfolding numberAt nameAt headerFits countsFit placeRight placesRight answerRight answersRight namedFrom namesDiffer storeNumber positionFrom lookupNumber lookupPlace lookupPart knownTo listed isActivities firstSecond dayNamed sameAnswer nameNumber
+unfolding lookups
 holds-interface = record { held = refl; bytes = refl }
 
 -- the premise at a call while 31 is sent: its answer is in the store as at the begin
 sending-overview : Holds store overview (lookupPart narrow overview store)
-unfolding numberAt nameAt headerFits countsFit placeRight placesRight answerRight answersRight namedFrom namesDiffer storeNumber positionFrom lookupNumber lookupPlace lookupPart knownTo listed isActivities firstSecond dayNamed sameAnswer nameNumber
+unfolding lookups
 sending-overview = record { held = refl; bytes = refl }
 
 -- another store, with the first answer alone
@@ -69,11 +62,11 @@ abbrev otherStore : List ℕ
 otherStore = 0x00 ∷ 0x01 ∷ 0x01 ∷ 0xF8 ∷ 0x00 ∷ 0x00 ∷ 0x00 ∷ 0x00 ∷ 0x00 ∷ 0x00 ∷ 0x01 ∷ 0xF8 ∷ 0x76 ∷ 0x31 ∷ replicate 502 0x07
 
 other-overview : Holds otherStore overview (0x76 ∷ 0x31 ∷ replicate 502 0x07)
-unfolding numberAt nameAt headerFits countsFit placeRight placesRight answerRight answersRight namedFrom namesDiffer storeNumber positionFrom lookupNumber lookupPlace lookupPart knownTo listed isActivities firstSecond dayNamed sameAnswer nameNumber
+unfolding lookups
 other-overview = record { held = refl; bytes = refl }
 
 other-sending : Holds otherStore overview (lookupPart narrow overview store)
-unfolding numberAt nameAt headerFits countsFit placeRight placesRight answerRight answersRight namedFrom namesDiffer storeNumber positionFrom lookupNumber lookupPlace lookupPart knownTo listed isActivities firstSecond dayNamed sameAnswer nameNumber
+unfolding lookups
 other-sending = record { held = refl; bytes = refl }
 
 accepted : (name : AnswerName) → nameNumber name ≡ 0 → beginNumber freshTool Transfer name 260 ≡ 0
@@ -85,7 +78,7 @@ unfolding possible phasePossible
 possible-granted = refl
 
 possible-sending : possible store (unit (Sending overview (sub 2))) ≡ true
-unfolding numberAt nameAt headerFits countsFit placeRight placesRight answerRight answersRight namedFrom namesDiffer storeNumber positionFrom lookupNumber lookupPlace lookupPart knownTo listed isActivities firstSecond dayNamed sameAnswer nameNumber countOf possible sendable phasePossible
+unfolding lookups countOf possible sendable phasePossible
 possible-sending = refl
 
 known-interface : knownTo 2 0x00 ≡ true
@@ -160,11 +153,11 @@ clean-run : after clean
       book = record { taken = 3; failed = 0; outcome = done };
       putOutBefore = 3;
     }
-unfolding numberAt nameAt headerFits countsFit placeRight placesRight answerRight answersRight namedFrom namesDiffer storeNumber positionFrom lookupNumber lookupPlace lookupPart knownTo listed isActivities firstSecond dayNamed sameAnswer nameNumber closed frameOf countRight startRight addressed checksumRight judged dataPlace dataOf countOf carries subField subFrame possible sendable phasePossible requestName answerFrom onTransfer onCode onSending onAcknowledge onData reactionTo unitAfter replyData replyTo unitNumber unitState unitReply unitResult transferRequest acknowledgement transferData frameSent sidSent heldRight transferPossible toolPossible requestNumber beginNumber beginState beginSent beginResult isAnswer receivedAs newBytes fits meaningOf transferMeaning isRefusal refusalMeaning dataMeaning arrivalMeaning arrivalBytes afterFailedWait stateAfter sentAfter roomAfter eventNumber eventState eventSent eventRoom eventResult front put
+unfolding calls
 clean-run = refl
 
 clean-premises : AllClean (cableEnds lab) (transfer lab threeFrames) clean (start (cableEnds lab) (transfer lab threeFrames) .system)
-unfolding numberAt nameAt headerFits countsFit placeRight placesRight answerRight answersRight namedFrom namesDiffer storeNumber positionFrom lookupNumber lookupPlace lookupPart knownTo listed isActivities firstSecond dayNamed sameAnswer nameNumber closed frameOf countRight startRight addressed checksumRight judged dataPlace dataOf countOf carries subField subFrame possible sendable phasePossible requestName answerFrom onTransfer onCode onSending onAcknowledge onData reactionTo unitAfter replyData replyTo unitNumber unitState unitReply unitResult transferRequest acknowledgement transferData frameSent sidSent heldRight transferPossible toolPossible requestNumber beginNumber beginState beginSent beginResult isAnswer receivedAs newBytes fits meaningOf transferMeaning isRefusal refusalMeaning dataMeaning arrivalMeaning arrivalBytes afterFailedWait stateAfter sentAfter roomAfter eventNumber eventState eventSent eventRoom eventResult front put
+unfolding calls
 clean-premises =
     ((first-premise, refl), (omega arith, ((call-premise 1, refl), (omega arith, ((call-premise 2, refl), (omega arith, tt))))))
 
@@ -207,11 +200,11 @@ rough-run : after rough
       book = record { taken = 3; failed = 0; outcome = done };
       putOutBefore = 7;
     }
-unfolding numberAt nameAt headerFits countsFit placeRight placesRight answerRight answersRight namedFrom namesDiffer storeNumber positionFrom lookupNumber lookupPlace lookupPart knownTo listed isActivities firstSecond dayNamed sameAnswer nameNumber closed frameOf countRight startRight addressed checksumRight judged dataPlace dataOf countOf carries subField subFrame possible sendable phasePossible requestName answerFrom onTransfer onCode onSending onAcknowledge onData reactionTo unitAfter replyData replyTo unitNumber unitState unitReply unitResult transferRequest acknowledgement transferData frameSent sidSent heldRight transferPossible toolPossible requestNumber beginNumber beginState beginSent beginResult isAnswer receivedAs newBytes fits meaningOf transferMeaning isRefusal refusalMeaning dataMeaning arrivalMeaning arrivalBytes afterFailedWait stateAfter sentAfter roomAfter eventNumber eventState eventSent eventRoom eventResult front put
+unfolding calls
 rough-run = refl
 
 rough-premises : AllAllowed (cableEnds lab) (transfer lab threeFrames) rough (start (cableEnds lab) (transfer lab threeFrames) .system)
-unfolding numberAt nameAt headerFits countsFit placeRight placesRight answerRight answersRight namedFrom namesDiffer storeNumber positionFrom lookupNumber lookupPlace lookupPart knownTo listed isActivities firstSecond dayNamed sameAnswer nameNumber closed frameOf countRight startRight addressed checksumRight judged dataPlace dataOf countOf carries subField subFrame possible sendable phasePossible requestName answerFrom onTransfer onCode onSending onAcknowledge onData reactionTo unitAfter replyData replyTo unitNumber unitState unitReply unitResult transferRequest acknowledgement transferData frameSent sidSent heldRight transferPossible toolPossible requestNumber beginNumber beginState beginSent beginResult isAnswer receivedAs newBytes fits meaningOf transferMeaning isRefusal refusalMeaning dataMeaning arrivalMeaning arrivalBytes afterFailedWait stateAfter sentAfter roomAfter eventNumber eventState eventSent eventRoom eventResult front put
+unfolding calls
 rough-premises =
     (tt, (omega arith, (tt, (first-premise, (omega arith, (other-premise 1 300, (omega arith, (refl, (omega arith, (other-premise 1 10, (refl, (call-premise 1, (omega arith, (call-premise 1, (tt, (refl, (omega arith, (omega arith, (other-premise 2 300, (call-premise 2, (omega arith, (omega arith, tt))))))))))))))))))))))
 
@@ -223,7 +216,7 @@ abbrev silence : List (Event (cableEnds lab))
 silence = lineChanges unitEnd 0 lost ∷ waitEnds 260 ∷ waitEnds 260 ∷ waitEnds 260 ∷ []
 
 silent-run : (after silence .system .tool .state .outcome ≡ NoAnswer) × (after silence .system .tool .state .sendings ≡ 3) × (after silence .system .putOut ≡ 3)
-unfolding numberAt nameAt headerFits countsFit placeRight placesRight answerRight answersRight namedFrom namesDiffer storeNumber positionFrom lookupNumber lookupPlace lookupPart knownTo listed isActivities firstSecond dayNamed sameAnswer nameNumber closed frameOf countRight startRight addressed checksumRight judged dataPlace dataOf countOf carries subField subFrame possible sendable phasePossible requestName answerFrom onTransfer onCode onSending onAcknowledge onData reactionTo unitAfter replyData replyTo unitNumber unitState unitReply unitResult transferRequest acknowledgement transferData frameSent sidSent heldRight transferPossible toolPossible requestNumber beginNumber beginState beginSent beginResult isAnswer receivedAs newBytes fits meaningOf transferMeaning isRefusal refusalMeaning dataMeaning arrivalMeaning arrivalBytes afterFailedWait stateAfter sentAfter roomAfter eventNumber eventState eventSent eventRoom eventResult front put
+unfolding calls
 silent-run = (refl, refl, refl)
 
 silent-agrees : Agrees lab threeFrames (after silence)
@@ -257,7 +250,7 @@ one-run : run (cableEnds lab) (transfer lab oneFrame) exchange (start (cableEnds
       state = record { request = Transfer; outcome = Done; name = interface; sendings = 1; expected = sub 1; held = 4 };
       room = 0x76 ∷ 0x00 ∷ 0x02 ∷ 0x02 ∷ [];
     }
-unfolding numberAt nameAt headerFits countsFit placeRight placesRight answerRight answersRight namedFrom namesDiffer storeNumber positionFrom lookupNumber lookupPlace lookupPart knownTo listed isActivities firstSecond dayNamed sameAnswer nameNumber closed frameOf countRight startRight addressed checksumRight judged dataPlace dataOf countOf carries subField subFrame possible sendable phasePossible requestName answerFrom onTransfer onCode onSending onAcknowledge onData reactionTo unitAfter replyData replyTo unitNumber unitState unitReply unitResult transferRequest acknowledgement transferData frameSent sidSent heldRight transferPossible toolPossible requestNumber beginNumber beginState beginSent beginResult isAnswer receivedAs newBytes fits meaningOf transferMeaning isRefusal refusalMeaning dataMeaning arrivalMeaning arrivalBytes afterFailedWait stateAfter sentAfter roomAfter eventNumber eventState eventSent eventRoom eventResult front put
+unfolding calls
 one-run = refl
 
 one-agrees : AgreesClean lab oneFrame (run (cableEnds lab) (transfer lab oneFrame) exchange (start (cableEnds lab) (transfer lab oneFrame)))

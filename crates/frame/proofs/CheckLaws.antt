@@ -1,13 +1,13 @@
 -- Judging a frame: the flat laws of the code's returns, and what a caller learns from number 0.
-use Prim.Native.Nat.{ℕ, _+_, _-_, _<_, _≤_}
-use mathlib.Core.Bool.{Bool, true, false, cond}
+use Prim.Native.Nat.{ℕ, _+_, _-_, _≤_}
+use mathlib.Core.Bool.{Bool, true, false}
 use mathlib.Core.List.{List}
-use mathlib.Core.Path.{_≡_, refl, sym, ap, _∙_}
-use native.Mathlib.Omega.{arith}
+use mathlib.Core.Path.{_≡_, refl, sym, _∙_}
 use lib.Dec.{leb, ltb, eqb}
 use lib.ListN.{length, getD, take}
-use borrow.Author.Tests.{lt-ltb, le-ltb, le-leb, lt-leb, eq-eqb, ne-eqb, leb-true, ltb-true, eqb-true}
-use Rattle.octets.proofs.Tests.{and-left, and-right}
+use borrow.Author.Tests.{eq-eqb, ne-eqb, leb-true, eqb-true}
+use Rattle.octets.proofs.OrderLaws.{unless-is}
+use Rattle.octets.proofs.Tests.{and-right}
 use Rattle.octets.proofs.CallLaws.{place-is, kept-by}
 use Rattle.octets.specs.Sum.{checksumOf}
 use Rattle.octets.specs.declared.Place.{Place}
@@ -32,19 +32,15 @@ pub record Good (a : Addresses) (end : End) (s : List ℕ) : Type 0 where
   pub address : addressed a end s ≡ true
   pub sum : checksumRight s ≡ true
 
-good-tests : (f k z m c : Bool) → _≡_ {A = ℕ} (cond f (cond k (cond z (cond m (cond c 0 3) 2) 1) 2) 1) 0 → (f ≡ true) × (k ≡ true) × (z ≡ true) × (m ≡ true) × (c ≡ true)
-good-tests true true true true true e = (refl, refl, refl, refl, refl)
-good-tests true true true true false e = absurd (omega arith)
-good-tests true true true false c e = absurd (omega arith)
-good-tests true true false m c e = absurd (omega arith)
-good-tests true false z m c e = absurd (omega arith)
-good-tests false k z m c e = absurd (omega arith)
-
 pub good : (a : Addresses) (end : End) (s : List ℕ) → judged a end s ≡ 0 → Good a end s
 unfolding judged
 good a end s e =
-    let t = good-tests (leb 5 (length s)) (knownFormat (getD s 0 0)) (countRight s) (addressed a end s) (checksumRight s) e in
-    record { five = leb-true 5 (length s) (t .0); format = t .1; count = t .2; address = t .3; sum = t .4 }
+    let f = unless-is (leb 5 (length s)) 1 _ 0 refl e in
+    let k = unless-is (knownFormat (getD s 0 0)) 2 _ 0 refl (f .rest) in
+    let c = unless-is (countRight s) 1 _ 0 refl (k .rest) in
+    let a = unless-is (addressed a end s) 2 _ 0 refl (c .rest) in
+    let m = unless-is (checksumRight s) 3 _ 0 refl (a .rest) in
+    record { five = leb-true 5 (length s) (f .first); format = k .first; count = c .first; address = a .first; sum = m .first }
 
 -- a good frame carries the checksum of the bytes before it
 pub good-sum : (a : Addresses) (end : End) (s : List ℕ) → judged a end s ≡ 0 → checksumOf (take (length s - 1) s) ≡ getD s (length s - 1) 0

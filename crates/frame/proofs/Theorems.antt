@@ -1,19 +1,17 @@
 -- What holds of every frame: written ones are good at the other end and read back, one changed byte is refused, and so is a frame cut short.
-use Prim.Native.Nat.{ℕ, _+_, _-_, _%_, _<_, _≤_}
-use mathlib.Core.Bool.{Bool, true, false, cond}
+use Prim.Native.Nat.{ℕ, _+_, _-_, _<_, _≤_}
+use mathlib.Core.Bool.{Bool, true, false}
 use mathlib.Core.List.{List, [], _∷_, _++_}
 use mathlib.Core.Logic.{_≢_}
 use mathlib.Core.Path.{_≡_, refl, sym, ap, _∙_}
 use native.Mathlib.Omega.{arith}
 use native.Mathlib.Decide.{decLt}
-use lib.Dec.{leb, ltb, eqb}
-use lib.ListN.{length, getD, take, drop, set, length-append, length-set, length-take}
+use lib.ListN.{length, getD, take, set, length-append, length-set, length-take}
 use lib.Seq.{take-append-seam, getD-append-seam, take-set-lt, take-set-le, getD-set-same, getD-set-other, getD-take, length-take-le}
-use borrow.Author.Tests.{lt-ltb, le-leb, eq-eqb, leb-true}
-use Rattle.octets.specs.Sum.{total, checksumOf}
-use Rattle.octets.specs.Numbers.{changedBy}
+use borrow.Author.Tests.{lt-ltb, le-leb, eq-eqb}
+use Rattle.octets.specs.Sum.{checksumOf}
 use Rattle.octets.proofs.SumLaws.{total-set}
-use Rattle.frame.specs.Frame.{isStart, target, source, closed, frameOf, knownFormat, countRight, startRight, addressed, checksumRight, judged, dataStart, dataLength, dataPlace, dataOf}
+use Rattle.frame.specs.Frame.{isStart, target, source, closed, frameOf, countRight, startRight, addressed, checksumRight, judged, dataPlace, dataOf}
 use Rattle.frame.specs.Messages.{startFrame}
 use Rattle.frame.specs.declared.End.{End}
 use Rattle.frame.specs.declared.End.the-variants as ends

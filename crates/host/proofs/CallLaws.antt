@@ -1,15 +1,16 @@
 -- The calls on packed states, from what the unit and the tool promise. A call that is not refused was made on bytes that are a state.
 use Prim.Native.Nat.{ℕ, _<_, _≤_}
-use mathlib.Core.Bool.{Bool, true, false, cond}
+use mathlib.Core.Bool.{Bool, true, false}
 use mathlib.Core.List.{List, append-nil}
 use mathlib.Core.Path.{_≡_, refl, sym, ap, _∙_}
 use native.Mathlib.Omega.{arith}
-use lib.Dec.{eqb, ltb, leb}
 use lib.ListN.{length, drop-of-length-le}
 use borrow.Author.Tests.{lt-ltb, le-ltb, le-leb, lt-leb, eq-eqb, ne-eqb}
 use Rattle.octets.specs.Order.{orElse}
+use Rattle.octets.specs.Numbers.{changedBy}
 use Rattle.octets.specs.Buffer.{front, copied}
 use Rattle.octets.specs.declared.Written.{Written}
+use Rattle.octets.proofs.OrderLaws.{or-zero}
 use Rattle.octets.proofs.BufferLaws.{copied-fits}
 use Rattle.frame.specs.Frame.{lab}
 use Rattle.catalog.specs.declared.AnswerName.{AnswerName}
@@ -30,19 +31,21 @@ use Rattle.host.specs.Calls.{unitFreshNumber, unitFreshState, unitHanded
 use Rattle.host.proofs.UnitLaws.{length-unit, unit-none, unit-size}
 use Rattle.host.proofs.ToolLaws.{length-tool, tool-none, tool-size}
 
--- bytes that fill the whole buffer
-copied-whole : (p b b′ : List ℕ) → length b ≡ length p → b′ ≡ copied p b → b′ ≡ p
-unfolding front
-copied-whole p b b′ h e =
-    e ∙ copied-fits p b (omega arith) ∙ rw (drop-of-length-le b {i = length p} (omega arith), append-nil)
+-- The state bytes b after a call with number n, whose next state is packed as p
 
--- 11, or a refusal before it, is a refusal
-refused-turn : (n : ℕ) → orElse n 11 ≡ 0 → ⊥
-refused-turn n h = go (eqb n 0) refl h
-  where
-    go : (x : Bool) → eqb n 0 ≡ x → cond x 11 n ≡ 0 → ⊥
-    go true e q = omega arith
-    go false e q = let t : eqb n 0 ≡ true = eq-eqb n 0 q in let z : _≡_ {A = ℕ} 0 1 = cc in omega arith
+kept-refused : (n : ℕ) (p b : List ℕ) → (n ≡ 0 → ⊥) → b ≡ changedBy n p b
+kept-refused n p b r = rw (ne-eqb n 0 r)
+
+-- packed bytes fill the whole buffer
+kept-accepted : (n : ℕ) (p b b′ : List ℕ) → n ≡ 0 → length b ≡ length p → b′ ≡ copied p b → b′ ≡ changedBy n p b
+unfolding front
+kept-accepted n p b b′ z h e =
+    rw (eq-eqb n 0 z) (e ∙ copied-fits p b (omega arith) ∙ rw (drop-of-length-le b {i = length p} (omega arith), append-nil))
+
+-- a call that 11 would refuse was not made, if nothing was refused
+turn-taken : (is : Bool) (n before size : ℕ) (b : List ℕ) → (is ≡ true → length b ≡ size) → (is ≡ false → n ≡ orElse before 11) → n ≡ 0 → length b ≡ size
+turn-taken true n before size b state none z = state refl
+turn-taken false n before size b state none z = absurd (let e = or-zero before 11 (sym (none refl) ∙ z) .rest in omega arith)
 
 -- The unit
 
@@ -53,13 +56,8 @@ unit-impossible store room b f h = rw (← unit-none b noUnit h refl)
 
 pub step-state : (step : UnitReply) (u : UnitState) (store : List ℕ) (room : ℕ) (b f : List ℕ) → u ≡ unpackedUnit b → step ≡ unitResult lab store room u f → step .number ≡ 0 → length b ≡ 11
 unfolding unitResult
-step-state step u store room b f e q n = go (isUnit b) refl
-  where
-    go : (x : Bool) → isUnit b ≡ x → length b ≡ 11
-    go true h = unit-size b h
-    go false h =
-        let k : unitNumber lab store room (unpackedUnit b) f ≡ 0 = rw (← e) (ap (λ (s : UnitReply). s .number) (sym q) ∙ n) in
-        absurd (refused-turn (storeNumber narrow store) (sym (unit-impossible store room b f h) ∙ k))
+step-state step u store room b f e q n =
+    turn-taken (isUnit b) (unitNumber lab store room (unpackedUnit b) f) (storeNumber narrow store) 11 b (unit-size b) (unit-impossible store room b f) (rw (← e) (ap (λ (s : UnitReply). s .number) (sym q) ∙ n))
 
 -- what a step hands over: refused, or with its next state packed
 module _ (step : UnitReply) where
@@ -69,12 +67,11 @@ module _ (step : UnitReply) where
 
   pub unit-refused : (b : List ℕ) → (step .number ≡ 0 → ⊥) → b ≡ unitKept step b
   unfolding unitKept
-  unit-refused b n = rw (ne-eqb (step .number) 0 n)
+  unit-refused b n = kept-refused (step .number) (packedUnit (step .state)) b n
 
   pub unit-accepted : (b b′ : List ℕ) → (step .number ≡ 0 → length b ≡ 11) → step .number ≡ 0 → b′ ≡ copied (packedUnit (step .state)) b → b′ ≡ unitKept step b
   unfolding unitKept
-  unit-accepted b b′ l n e =
-      rw (eq-eqb (step .number) 0 n) (copied-whole (packedUnit (step .state)) b b′ (l n ∙ sym (length-unit (step .state))) e)
+  unit-accepted b b′ l n e = kept-accepted (step .number) (packedUnit (step .state)) b b′ n (l n ∙ sym (length-unit (step .state))) e
 
 -- a fresh unit, from the tests of the code
 module _ (kind : ℕ) (b : List ℕ) where
@@ -117,24 +114,13 @@ event-impossible room out b h = rw (← tool-none b noTool h refl)
 
 pub begin-state : (step : ToolStep) (t : ToolState) (request : Request) (name : AnswerName) (out : ℕ) (b : List ℕ) → t ≡ unpackedTool b → step ≡ beginResult lab t request name out → step .number ≡ 0 → length b ≡ 15
 unfolding beginResult
-begin-state step t request name out b e q n = go (isTool b) refl
-  where
-    go : (x : Bool) → isTool b ≡ x → length b ≡ 15
-    go true h = tool-size b h
-    go false h =
-        let k : beginNumber (unpackedTool b) request name out ≡ 0 = rw (← e) (ap (λ (s : ToolStep). s .number) (sym q) ∙ n) in
-        absurd (refused-turn (requestNumber request name) (sym (begin-impossible request name out b h) ∙ k))
+begin-state step t request name out b e q n =
+    turn-taken (isTool b) (beginNumber (unpackedTool b) request name out) (requestNumber request name) 15 b (tool-size b) (begin-impossible request name out b) (rw (← e) (ap (λ (s : ToolStep). s .number) (sym q) ∙ n))
 
 pub event-state : (step : ToolStep) (t : ToolState) (m : Meaning) (new : List ℕ) (room out : ℕ) (b : List ℕ) → t ≡ unpackedTool b → step ≡ eventResult lab t m new room out → step .number ≡ 0 → length b ≡ 15
 unfolding eventResult
-event-state step t m new room out b e q n = go (isTool b) refl
-  where
-    go : (x : Bool) → isTool b ≡ x → length b ≡ 15
-    go true h = tool-size b h
-    go false h =
-        let k : eventNumber (unpackedTool b) room out ≡ 0 = rw (← e) (ap (λ (s : ToolStep). s .number) (sym q) ∙ n) in
-        let i : eventNumber (unpackedTool b) room out ≡ 11 = event-impossible room out b h in
-        absurd (omega arith)
+event-state step t m new room out b e q n =
+    turn-taken (isTool b) (eventNumber (unpackedTool b) room out) 0 15 b (tool-size b) (event-impossible room out b) (rw (← e) (ap (λ (s : ToolStep). s .number) (sym q) ∙ n))
 
 -- what a step hands over: refused, or with its next state packed
 module _ (step : ToolStep) where
@@ -144,12 +130,11 @@ module _ (step : ToolStep) where
 
   pub tool-refuses : (b : List ℕ) → (step .number ≡ 0 → ⊥) → b ≡ toolKept step b
   unfolding toolKept
-  tool-refuses b n = rw (ne-eqb (step .number) 0 n)
+  tool-refuses b n = kept-refused (step .number) (packedTool (step .state)) b n
 
   pub tool-accepts : (b b′ : List ℕ) → (step .number ≡ 0 → length b ≡ 15) → step .number ≡ 0 → b′ ≡ copied (packedTool (step .state)) b → b′ ≡ toolKept step b
   unfolding toolKept
-  tool-accepts b b′ l n e =
-      rw (eq-eqb (step .number) 0 n) (copied-whole (packedTool (step .state)) b b′ (l n ∙ sym (length-tool (step .state))) e)
+  tool-accepts b b′ l n e = kept-accepted (step .number) (packedTool (step .state)) b b′ n (l n ∙ sym (length-tool (step .state))) e
 
 -- a begin, from the test of its request
 module _ (b : List ℕ) (request : ℕ) (name : AnswerName) where

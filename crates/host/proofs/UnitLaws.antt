@@ -1,14 +1,14 @@
 -- The unit's packed state: the functions' returns, and that packing and unpacking undo each other.
-use Prim.Native.Nat.{ℕ, zero, suc, _+_, _*_, _/_, _%_, _<_, _≤_}
-use mathlib.Core.Bool.{Bool, true, false, cond, _&&_, _||_}
+use Prim.Native.Nat.{ℕ, zero, suc, _+_, _/_, _%_, _<_, _≤_}
+use mathlib.Core.Bool.{true, false, _&&_, _||_}
 use mathlib.Core.List.{List, [], _∷_, _++_}
 use mathlib.Core.Path.{_≡_, refl, sym, ap, ap₂, _∙_}
 use native.Mathlib.Omega.{arith}
 use lib.Dec.{eqb, leb}
-use lib.ListN.{length, getD, take, drop}
+use lib.ListN.{length, getD}
 use borrow.Author.Tests.{le-leb, lt-leb, eq-eqb, ne-eqb, eqb-true}
 use Rattle.octets.specs.BigEndian.{numberOf, bytesOf, numberAt}
-use Rattle.octets.specs.Buffer.{partAt, copied}
+use Rattle.octets.specs.Buffer.{copied}
 use Rattle.octets.proofs.NumberLaws.{number-of-bytes}
 use Rattle.octets.proofs.Tests.{and-left, and-right}
 use Rattle.catalog.specs.declared.AnswerName.{AnswerName}

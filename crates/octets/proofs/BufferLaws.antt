@@ -1,14 +1,14 @@
 -- What lent buffers hold after writes, and the loops that write, a turn at a time.
-use Prim.Native.Nat.{ℕ, zero, suc, _+_, _-_, _<_, _≤_}
-use mathlib.Core.Bool.{Bool, true, false, cond, _&&_}
+use Prim.Native.Nat.{ℕ, suc, _+_, _-_, _<_, _≤_}
+use mathlib.Core.Bool.{Bool, true, false, _&&_}
 use mathlib.Core.List.{List, [], _∷_, _++_, append-assoc, append-nil}
 use mathlib.Core.Path.{_≡_, refl, sym, ap, _∙_}
 use native.Mathlib.Omega.{arith}
 use native.Mathlib.Nat.{zero-add, suc-add}
 use native.Mathlib.Numerals.{add-one}
 use lib.Dec.{eqb}
-use lib.ListN.{length, getD, take, drop, set, length-append, length-drop, length-take, length-set, take-append-drop, drop-of-length-le, List·getD-append, List·getD-eq-default}
-use lib.Seq.{take-append-seam, take-append-le, take-take, drop-append-add, take-at, drop-at, drop-drop, take-length, take-all, take-suc, take-nil, drop-cons, getD-take, paste, paste-zero, paste-suc, set-at, set-split, sets, sets-eq, slice, slice-empty, slice-cons, length-slice, length-take-le, append-snoc}
+use lib.ListN.{length, getD, take, drop, set, length-append, length-drop, length-take, take-append-drop, drop-of-length-le, List·getD-append, List·getD-eq-default}
+use lib.Seq.{take-append-seam, drop-append-add, take-at, drop-drop, take-length, take-all, take-suc, take-nil, drop-cons, getD-take, paste, paste-zero, paste-suc, set-at, sets, sets-eq, slice, slice-empty, slice-cons, length-take-le, append-snoc}
 use borrow.Author.Tests.{le-leb, lt-leb, eq-eqb, ne-eqb, eqb-true}
 use Rattle.octets.specs.Buffer.{partAt, sameBytes, front, put, copied, moved, shifted}
 use Rattle.octets.proofs.Tests.{and-left, and-right}
@@ -89,6 +89,21 @@ length-put at p o h = simp (length-append, length-take, length-drop) (omega arit
 pub put-front : (at : ℕ) (p v o : List ℕ) → length p ≡ at → put at v (front p o) ≡ front (p ++ v) o
 unfolding front put
 put-front at p v o e = rw (← e, take-append-seam, drop-append-add, drop-drop, length-append)
+
+-- two puts one behind the other are one
+pub put-put : (h : ℕ) (v w o : List ℕ) → h + length v ≤ length o → put (h + length v) w (put h v o) ≡ put h (v ++ w) o
+unfolding put
+put-put h v w o m =
+    let p : length (take h o ++ v) ≡ h + length v = simp (length-append, length-take) (omega arith) in
+    let q : h + length v + length w ≡ h + length (v ++ w) = omega (arith, length-append v w) in
+    let r : drop (h + length v + length w) ((take h o ++ v) ++ drop (h + length v) o) ≡ drop (h + length (v ++ w)) o =
+    rw (← p, drop-append-add, drop-drop, p, q) in
+    rw (r, take-at (take h o ++ v) (drop (h + length v) o) (h + length v) p) (ap (λ (l : List ℕ). l ++ drop (h + length (v ++ w)) o) (append-assoc (take h o) v w))
+
+-- nothing put changes nothing
+pub put-none : (h : ℕ) (o : List ℕ) → o ≡ put h [] o
+unfolding put
+put-none h o = let z : h + 0 ≡ h = omega arith in rw (z, append-nil) (sym (take-append-drop h o))
 
 -- what was put at the front is its front
 pub take-front : (at : ℕ) (p o : List ℕ) → length p ≡ at → take at (front p o) ≡ p

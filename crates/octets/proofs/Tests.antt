@@ -26,6 +26,10 @@ or-t a b p = rw p
 pub or-f : (a b x : Bool) → a ≡ false → x ≡ b → x ≡ (a || b)
 or-f a b x p q = rw p q
 
+pub and-false : (a b : Bool) → b ≡ false → (a && b) ≡ false
+and-false true b h = h
+and-false false b h = sym (ap (λ (x : Bool). false) h)
+
 -- what `a && b` and `a || b` give where b is not asked is a itself
 pub and-self : (a b : Bool) → a ≡ false → a ≡ (a && b)
 and-self a b p = rw p

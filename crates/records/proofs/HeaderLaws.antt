@@ -1,6 +1,6 @@
 -- One array: its header as the code reads it, and what is known where one stands.
-use Prim.Native.Nat.{ℕ, suc, _+_, _-_, _*_, _<_, _≤_}
-use mathlib.Core.Bool.{Bool, true, false, _&&_}
+use Prim.Native.Nat.{ℕ, _+_, _-_, _*_, _<_, _≤_}
+use mathlib.Core.Bool.{true, false}
 use mathlib.Core.List.{List, [], _∷_}
 use mathlib.Core.Path.{_≡_, refl, sym, ap, _∙_}
 use native.Mathlib.Omega.{arith}
@@ -10,7 +10,8 @@ use lib.ListN.{length, getD}
 use borrow.Author.Tests.{lt-ltb, le-ltb, le-leb, lt-leb, ltb-true, leb-true}
 use Rattle.octets.specs.Order.{unless}
 use Rattle.octets.specs.BigEndian.{numberOf}
-use Rattle.octets.proofs.Tests.{and-left, and-right, and-both}
+use Rattle.octets.proofs.Tests.{and-left, and-right, and-both, and-false}
+use Rattle.octets.proofs.OrderLaws.{unless-is, unless-refused}
 use Rattle.octets.proofs.NumberLaws.{read-two}
 use Rattle.records.specs.Arrays.{sizeAt, countAt, lengthAt, nextAt, standsAt, arrayBy, foundAt}
 use Rattle.records.specs.declared.Array.{Array}
@@ -18,19 +19,6 @@ use Rattle.records.specs.declared.Array.{Array}
 -- size times number fits: both have 16 bits
 pub product-fits : (a b : ℕ) → a < 65536 → b < 65536 → a * b ≤ 65535 * 65535
 product-fits a b p q = mul-le-mul {n₂ = 65535} {m₂ = 65535} (omega arith) (omega arith)
-
-and-false : (a b : Bool) → b ≡ false → (a && b) ≡ false
-and-false true b h = h
-and-false false b h = refl
-
--- what a number says of the checks behind it: 0, that the first held and the rest gave 0; another, of one check, that it failed
-pub unless-held : (b : Bool) (n rest : ℕ) → unless b (suc n) rest ≡ 0 → (b ≡ true) × (rest ≡ 0)
-unless-held true n rest h = (refl, h)
-unless-held false n rest h = absurd (omega arith)
-
-pub unless-failed : (b : Bool) (n : ℕ) → (unless b n 0 ≡ 0 → ⊥) → b ≡ false
-unless-failed true n h = absurd (h refl)
-unless-failed false n h = refl
 
 -- no array, for this reason
 abbrev pub none : ℕ → Array
@@ -100,10 +88,10 @@ module _ (at : ℕ) (s : List ℕ) where
     number-is = ap (λ (x : Array). x .number) e
 
     pub found-stands : a .number ≡ 0 → standsAt at s ≡ true
-    found-stands z = unless-held (standsAt at s) 8 0 (sym number-is ∙ z) .0
+    found-stands z = unless-is (standsAt at s) 9 0 0 refl (sym number-is ∙ z) .first
 
     pub found-none : (a .number ≡ 0 → ⊥) → standsAt at s ≡ false
-    found-none n = unless-failed (standsAt at s) 9 (λ q. n (number-is ∙ q))
+    found-none n = unless-refused (standsAt at s) 9 (λ q. n (number-is ∙ q))
 
     pub found-next : a .number ≡ 0 → a .start + a .len ≡ nextAt at s
     unfolding arrayBy

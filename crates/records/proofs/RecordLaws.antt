@@ -13,7 +13,8 @@ use Rattle.octets.specs.Numbers.{placeBy}
 use Rattle.octets.specs.declared.Place.{Place}
 use Rattle.records.specs.Arrays.{sizeAt, countAt, lengthAt, standsAt, isRun, arraysIn, headerOf, arrayNumber, recordNumber, arrayBy, arrayAt, recordPlace, inNumber, recordIn}
 use Rattle.records.specs.declared.Array.{Array}
-use Rattle.records.proofs.HeaderLaws.{unless-held, unless-failed, stands-size, stands-within}
+use Rattle.records.proofs.HeaderLaws.{stands-size, stands-within}
+use Rattle.octets.proofs.OrderLaws.{unless-is, unless-refused}
 use Rattle.records.proofs.RunLaws.{stands-behind}
 
 -- no part, for this reason
@@ -62,11 +63,11 @@ module _ (i k : ℕ) (s : List ℕ) where
 module _ (i : ℕ) (s : List ℕ) (z : arrayNumber i s ≡ 0) where
   pub there-run : isRun s ≡ true
   unfolding arrayNumber
-  there-run = unless-held (isRun s) 8 (unless (ltb i (arraysIn s)) 10 0) z .0
+  there-run = unless-is (isRun s) 9 (unless (ltb i (arraysIn s)) 10 0) 0 refl z .first
 
   pub there-below : i < arraysIn s
   unfolding arrayNumber
-  there-below = ltb-true i (arraysIn s) (unless-held (ltb i (arraysIn s)) 9 0 (unless-held (isRun s) 8 (unless (ltb i (arraysIn s)) 10 0) z .1) .0)
+  there-below = ltb-true i (arraysIn s) (unless-is (ltb i (arraysIn s)) 10 0 0 refl (unless-is (isRun s) 9 (unless (ltb i (arraysIn s)) 10 0) 0 refl z .rest) .first)
 
   pub there-stands : standsAt (headerOf i s) s ≡ true
   unfolding arraysIn
@@ -104,10 +105,10 @@ module _ (i k : ℕ) (s : List ℕ) (a : Array) (e : a ≡ arrayAt i s) where
 
     pub place-none : (r : Place) → (p .number ≡ 0 → ⊥) → r ≡ nothing (p .number) → r ≡ recordPlace i k s
     unfolding recordPlace
-    place-none r n f = rw (f, inside-number, number-then i s there k, unless-failed (ltb k (countAt (headerOf i s) s)) 10 (λ h. n (inside-number ∙ h)))
+    place-none r n f = rw (f, inside-number, number-then i s there k, unless-refused (ltb k (countAt (headerOf i s) s)) 10 (λ h. n (inside-number ∙ h)))
 
     held : p .number ≡ 0 → ltb k (countAt (headerOf i s) s) ≡ true
-    held h = unless-held (ltb k (countAt (headerOf i s) s)) 9 0 (sym inside-number ∙ h) .0
+    held h = unless-is (ltb k (countAt (headerOf i s) s)) 10 0 0 refl (sym inside-number ∙ h) .first
 
     pub place-found : p .number ≡ 0 → _≡_ {A = Place} (record { number = 0; start = a .start + p .start; len = p .len }) (recordPlace i k s)
     unfolding recordPlace arrayBy

@@ -10,7 +10,8 @@ use borrow.Author.Tests.{lt-ltb, le-ltb, eq-eqb, ne-eqb, eqb-true}
 use Rattle.octets.specs.declared.Counted.{Counted}
 use Rattle.records.specs.Arrays.{nextAt, standsAt, filledFrom, isRun, arraysFrom, arraysIn, behind, headerOf, bodyNumber, arrayNumber, arrayBy, foundAt, arrayCount, arrayAt}
 use Rattle.records.specs.declared.Array.{Array}
-use Rattle.records.proofs.HeaderLaws.{unless-held, unless-failed, none, stands-within, found-stands, found-none, found-next, found-within}
+use Rattle.octets.proofs.OrderLaws.{unless-is, unless-refused}
+use Rattle.records.proofs.HeaderLaws.{none, stands-within, found-stands, found-none, found-next, found-within}
 
 -- The body is judged: what is left decides
 
@@ -135,11 +136,11 @@ stands-behind (suc most) (suc k) at s h = go (standsAt at s) h (λ p. stands-beh
 module _ (s : List ℕ) (k : ℕ) (n : Counted) (e : n ≡ arrayCount s) (r : Array) where
   run : n .number ≡ 0 → isRun s ≡ true
   unfolding bodyNumber
-  run z = unless-held (isRun s) 8 0 (ap (λ (x : Counted). x .number) (sym e) ∙ z) .0
+  run z = unless-is (isRun s) 9 0 0 refl (ap (λ (x : Counted). x .number) (sym e) ∙ z) .first
 
   no-run : (n .number ≡ 0 → ⊥) → isRun s ≡ false
   unfolding bodyNumber
-  no-run z = unless-failed (isRun s) 9 (λ q. z (ap (λ (x : Counted). x .number) e ∙ q))
+  no-run z = unless-refused (isRun s) 9 (λ q. z (ap (λ (x : Counted). x .number) e ∙ q))
 
   count-is : n .number ≡ 0 → n .count ≡ arraysIn s
   unfolding bodyNumber

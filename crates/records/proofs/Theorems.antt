@@ -19,7 +19,8 @@ use Rattle.octets.specs.declared.Counted.{Counted}
 use Rattle.octets.proofs.BufferLaws.{length-part}
 use Rattle.records.specs.Arrays.{sizeAt, countAt, lengthAt, standsAt, filledFrom, isRun, arraysFrom, arraysIn, behind, headerOf, bodyNumber, arrayNumber, arrayBy, arrayCount, arrayAt, recordPlace, arrayRecords, recordOf, recordIn}
 use Rattle.records.specs.Written.{RecordArray, noRecords, AllSound, joined, writtenArray, written, arrayRead, arraysRead, Bytes}
-use Rattle.records.proofs.HeaderLaws.{unless-held, unless-failed, stands-size, stands-within}
+use Rattle.records.proofs.HeaderLaws.{stands-size, stands-within}
+use Rattle.octets.proofs.OrderLaws.{unless-is, unless-refused}
 use Rattle.records.proofs.RecordLaws.{in-own, there-stands, number-then}
 use Rattle.records.proofs.WrittenLaws.{joined-record, length-list, filled-written, behind-written, kind-here, size-here, count-here, length-here, records-part}
 use Rattle.records.proofs.ReadLaws.{same-values, length-values, value-at, values-of, arrayOf, arrayHere, arraysHere, here-sound, filled-read, record-there, array-there}
@@ -124,7 +125,7 @@ one-reading l m sl sm e = sym (read-written l sl) ∙ ap arraysRead e ∙ read-w
 module _ (s : List ℕ) (bytes : Bytes s) (good : arrayCount s .number ≡ 0) where
   is-run : isRun s ≡ true
   unfolding bodyNumber
-  is-run = unless-held (isRun s) 8 0 good .0
+  is-run = unless-is (isRun s) 9 0 0 refl good .first
 
   there-all : (i : ℕ) → i < arraysIn s → arrayNumber i s ≡ 0
   unfolding arrayNumber
@@ -153,7 +154,7 @@ no-list s n l w e =
 
 no-run : (s : List ℕ) → Bytes s → ((l : List RecordArray) → AllSound l → written l ≡ s → ⊥) → arrayCount s .number ≡ 9
 unfolding bodyNumber
-no-run s bytes n = rw (unless-failed (isRun s) 9 (λ z. n (arraysRead s) (read-sound s bytes z) (written-read s bytes z)))
+no-run s bytes n = rw (unless-refused (isRun s) 9 (λ z. n (arraysRead s) (read-sound s bytes z) (written-read s bytes z)))
 
 -- "9: body is not a run of record arrays": exactly where no list of arrays is written so
 pub nine-exactly : (s : List ℕ) → Bytes s → (arrayCount s .number ≡ 9) ↔ ((l : List RecordArray) → AllSound l → written l ≡ s → ⊥)

@@ -1,34 +1,25 @@
 -- Counting, cutting and writing sub messages.
 use Prim.Native.Nat.{ℕ, _+_, _-_, _*_, _/_, _%_, _<_, _≤_, min}
-use mathlib.Core.Bool.{Bool, true, false, cond}
 use mathlib.Core.List.{List, [], _∷_, _++_}
 use mathlib.Core.Path.{_≡_, refl, sym, ap, _∙_}
 use native.Mathlib.Omega.{arith}
 use native.Mathlib.Decide.{decLe}
-use lib.Dec.{leb, ltb, eqb}
-use lib.ListN.{length, take, drop, length-append, length-take, length-drop}
+use lib.Dec.{leb}
+use lib.ListN.{length, take, drop, length-take, length-drop}
 use lib.Seq.{take-all, take-length}
-use borrow.Author.Tests.{lt-ltb, le-ltb, le-leb, lt-leb, eq-eqb, ne-eqb, leb-true}
-use Rattle.octets.specs.Numbers.{changedBy, writtenBy}
-use Rattle.octets.specs.BigEndian.{bytesOf}
-use Rattle.octets.specs.Buffer.{partAt, front}
+use borrow.Author.Tests.{lt-ltb, le-ltb, le-leb, lt-leb, ne-eqb, leb-true}
+use Rattle.octets.specs.Buffer.{partAt}
 use Rattle.octets.specs.declared.Written.{Written}
 use Rattle.octets.specs.declared.Place.{Place}
 use Rattle.octets.specs.declared.Counted.{Counted}
-use Rattle.octets.proofs.CallLaws.{written-is, place-is, kept-by, changed-by, zero-by}
-use Rattle.octets.proofs.BufferLaws.{length-part}
+use Rattle.octets.proofs.OrderLaws.{unless-is}
+use Rattle.octets.proofs.CallLaws.{written-is, place-is, kept-by}
 use Rattle.frame.specs.declared.Addresses.{Addresses}
 use Rattle.frame.specs.declared.End.the-variants as ends
-use Rattle.frame.specs.Frame.{frameOf, writeNumber, writeResult, writeOut}
-use Rattle.split.specs.Split.{dataMost, isSplit, countOf, subMessages, carries, pieceNumber, piecePlace, pieceOf, subField, subFrame, subNumber, subResult, subOut}
+use Rattle.frame.specs.Frame.{writeNumber, writeResult, writeOut}
+use Rattle.split.specs.Split.{dataMost, countOf, subMessages, carries, pieceNumber, piecePlace, pieceOf, subField, subFrame, subNumber, subResult, subOut}
 
 -- Pieces
-
-piece-tests : (l o s : Bool) → _≡_ {A = ℕ} (cond l (cond o (cond s 0 10) 10) 8) 0 → (l ≡ true) × (o ≡ true) × (s ≡ true)
-piece-tests true true true e = (refl, refl, refl)
-piece-tests true true false e = absurd (omega arith)
-piece-tests true false s e = absurd (omega arith)
-piece-tests false o s e = absurd (omega arith)
 
 -- the number of a piece, from the tests of the code; c is the count that it computed
 module _ (n k : ℕ) where
@@ -65,8 +56,10 @@ pub record Piece (n k : ℕ) : Type 0 where
 pub piece-good : (n k : ℕ) → pieceNumber n k ≡ 0 → Piece n k
 unfolding pieceNumber
 piece-good n k e =
-    let t = piece-tests (leb n dataMost) (leb 1 k) (leb k (countOf n)) e in
-    record { most = leb-true _ _ (t .0); first = leb-true _ _ (t .1); last = leb-true _ _ (t .2) }
+    let m = unless-is (leb n dataMost) 8 _ 0 refl e in
+    let f = unless-is (leb 1 k) 10 _ 0 refl (m .rest) in
+    let l = unless-is (leb k (countOf n)) 10 0 0 refl (f .rest) in
+    record { most = leb-true _ _ (m .first); first = leb-true _ _ (f .first); last = leb-true _ _ (l .first) }
 
 pub piece-zero : (n k : ℕ) → n ≤ 59998 → 1 ≤ k → k ≤ countOf n → pieceNumber n k ≡ 0
 unfolding pieceNumber

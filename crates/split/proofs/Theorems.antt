@@ -2,23 +2,20 @@
 use Prim.Native.Nat.{ℕ, zero, suc, _+_, _-_, _*_, _/_, _%_, _<_, _≤_}
 use mathlib.Core.Bool.{Bool, true, false, _&&_}
 use mathlib.Core.List.{List, [], _∷_, _++_, map}
-use mathlib.Core.Path.{_≡_, refl, sym, ap, _∙_}
+use mathlib.Core.Path.{_≡_, refl, sym, _∙_}
 use native.Mathlib.Omega.{arith}
 use native.Mathlib.Decide.{decLe}
-use lib.Dec.{eqb, ltb, leb}
-use lib.ListN.{length, getD, take, drop, length-take, length-drop}
+use lib.Dec.{eqb, ltb}
+use lib.ListN.{length, take, drop, length-take, length-drop}
 use lib.Seq.{take-add, take-all}
-use borrow.Author.Tests.{lt-ltb, le-ltb, le-leb, lt-leb, eq-eqb, ne-eqb}
-use Rattle.octets.specs.BigEndian.{numberOf, numberAt}
-use Rattle.octets.specs.Buffer.{partAt}
+use borrow.Author.Tests.{lt-ltb, le-ltb, le-leb, eq-eqb, ne-eqb}
+use Rattle.octets.specs.BigEndian.{numberAt}
 use Rattle.frame.specs.declared.Addresses.{Addresses}
 use Rattle.frame.specs.declared.End.the-variants as ends
 use Rattle.frame.specs.Frame.{judged, dataOf}
 use Rattle.frame.proofs.Theorems.{write-then-check, data-reads-back}
-use Rattle.split.specs.Split.{dataMost, isSplit, countOf, subMessages, pieceNumber, subField, subFrame}
-use Rattle.split.specs.Join.{isAnswer, isWhole, receivedAs, carriedBy, Joined, complete, waiting, joinedBy, joined, framesFrom, framesOf, joinedFrames}
-use Rattle.split.specs.declared.Received.{Received}
-use Rattle.split.specs.declared.Received.the-variants.{Whole, Full, Last, Above, Other}
+use Rattle.split.specs.Split.{countOf, subMessages, subField, subFrame}
+use Rattle.split.specs.Join.{isAnswer, isWhole, carriedBy, complete, joinedBy, joined, framesFrom, framesOf, joinedFrames}
 use Rattle.split.proofs.SplitLaws.{field-whole, field-split, length-field, field-some}
 use Rattle.split.proofs.JoinLaws.{whole-answer, last, full}
 

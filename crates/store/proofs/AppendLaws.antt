@@ -14,7 +14,8 @@ use Rattle.octets.specs.BigEndian.{bytesOf, withNumber}
 use Rattle.octets.proofs.BufferLaws.{length-part, length-front, put-front, lent-copy, shifted-fits}
 use Rattle.octets.proofs.CallLaws.{changed-by}
 use Rattle.catalog.specs.Name.{nameNumber}
-use Rattle.store.proofs.PartLaws.{unless-is, or-zero, part-left, part-take, number-behind, front-kept, front-same}
+use Rattle.octets.proofs.OrderLaws.{unless-is, or-zero}
+use Rattle.octets.proofs.PartLaws.{part-left, part-take, number-behind, front-kept, front-same}
 use Rattle.store.specs.Layout.{narrow, answers, streamLength, streamStart, storeLength, streamOf}
 use Rattle.store.specs.Check.{storeNumber}
 use Rattle.store.specs.Read.{position}

@@ -11,7 +11,7 @@ use Rattle.octets.specs.BigEndian.{bytesOf, fieldWidth, numberAt}
 use Rattle.octets.proofs.BufferLaws.{length-front, length-part}
 use Rattle.store.specs.Layout.{narrow, answers, streamLength, entryDay, entryOffset, entryLength, answerStart, streamOf, answerAt, nameAt}
 use Rattle.store.specs.Append.{nameOf, appendNumber, withAnswer, appendOut}
-use Rattle.store.proofs.PartLaws.{part-left, part-in, part-here, byte-in, number-in, number-here}
+use Rattle.octets.proofs.PartLaws.{part-left, part-in, part-here, byte-in, number-in, number-here}
 use Rattle.store.proofs.StoreLaws.{held}
 use Rattle.store.proofs.AppendLaws.{Accepted, accepted, answer-long}
 

@@ -1,23 +1,31 @@
 -- The five checks, from the tests of the code: each loop a turn at a time, where what is left decides.
-use Prim.Native.Nat.{ℕ, suc, _+_, _-_, _*_, _<_, _≤_}
-use mathlib.Core.Bool.{true, false, not, _&&_, _||_}
+use Prim.Native.Nat.{ℕ, suc, _+_, _-_, _<_, _≤_}
+use mathlib.Core.Bool.{Bool, true, false, not, _&&_, _||_}
 use mathlib.Core.List.{List}
-use mathlib.Core.Path.{_≡_, _∙_}
+use mathlib.Core.Path.{_≡_, sym, _∙_}
 use native.Mathlib.Omega.{arith}
 use native.Mathlib.Nat.{sub-zero}
 use lib.Dec.{eqb, leb}
 use lib.ListN.{length, getD}
 use borrow.Author.Tests.{le-leb, lt-leb, eq-eqb, ne-eqb}
-use Rattle.octets.specs.BigEndian.{numberAt}
 use Rattle.catalog.specs.Name.{sameAnswer, nameNumber}
 use Rattle.catalog.specs.declared.AnswerName.{AnswerName}
-use Rattle.store.specs.Layout.{narrow, answers, streamLength, streamStart, entryOffset, entryLength, answerStart, nameAt}
+use Rattle.catalog.proofs.NameLaws.{other-day}
+use Rattle.store.specs.Layout.{narrow, answers, streamLength, streamStart, entryDay, entryOffset, entryLength, answerStart, nameAt}
 use Rattle.store.specs.Check.{headerFits, countsFit, placeRight, placesRight, answerRight, answersRight, namedFrom, namesDiffer}
 
 -- a name from its two parts
-pub name-is : (s : List ℕ) (i start trep day : ℕ) → start ≡ answerStart narrow i s → trep ≡ getD s (start + 1) 0 → day ≡ numberAt 4 (4 + 8 * i) s → _≡_ {A = AnswerName} (record { trep = trep; day = day }) (nameAt narrow i s)
+pub name-is : (s : List ℕ) (i start trep day : ℕ) → start ≡ answerStart narrow i s → trep ≡ getD s (start + 1) 0 → day ≡ entryDay narrow i s → _≡_ {A = AnswerName} (record { trep = trep; day = day }) (nameAt narrow i s)
 unfolding nameAt
 name-is s i start trep day e t d = rw (t, d, e)
+
+-- a name is compared by its day, then whole
+pub other-by-day : (s : List ℕ) (i day : ℕ) (name : AnswerName) → day ≡ entryDay narrow i s → (day ≡ name .day → ⊥) → false ≡ sameAnswer (nameAt narrow i s) name
+unfolding nameAt
+other-by-day s i day name d h = sym (other-day (nameAt narrow i s) name (rw d at h))
+
+pub same-by-name : (s : List ℕ) (i : ℕ) (name other : AnswerName) (r : Bool) → other ≡ nameAt narrow i s → r ≡ sameAnswer other name → r ≡ sameAnswer (nameAt narrow i s) name
+same-by-name s i name other r e q = rw (← e) q
 
 -- Header and counts; b, t and n are what the code read
 
@@ -108,15 +116,15 @@ module _ (s : List ℕ) (k j : ℕ) (name : AnswerName) (whole : namedFrom narro
   unfolding namedFrom
   named-end h = let e : k - j ≡ 0 = omega arith in rw (whole, e)
 
-  module _ (more : j < k) (other : AnswerName) (is : other ≡ nameAt narrow j s) where
-    named-turn : namedFrom narrow k 0 name s ≡ (sameAnswer other name || namedFrom narrow (k - (j + 1)) (j + 1) name s)
+  module _ (more : j < k) where
+    named-turn : namedFrom narrow k 0 name s ≡ (sameAnswer (nameAt narrow j s) name || namedFrom narrow (k - (j + 1)) (j + 1) name s)
     unfolding namedFrom
-    named-turn = let e : k - j ≡ suc (k - (j + 1)) = omega arith in rw (whole, e, is)
+    named-turn = let e : k - j ≡ suc (k - (j + 1)) = omega arith in rw (whole, e)
 
-    pub named-hit : sameAnswer other name ≡ true → true ≡ namedFrom narrow k 0 name s
+    pub named-hit : sameAnswer (nameAt narrow j s) name ≡ true → true ≡ namedFrom narrow k 0 name s
     named-hit h = rw (named-turn, h)
 
-    pub named-miss : sameAnswer other name ≡ false → namedFrom narrow k 0 name s ≡ namedFrom narrow (k - (j + 1)) (j + 1) name s
+    pub named-miss : sameAnswer (nameAt narrow j s) name ≡ false → namedFrom narrow k 0 name s ≡ namedFrom narrow (k - (j + 1)) (j + 1) name s
     named-miss h = named-turn ∙ rw h
 
 -- Repeats

@@ -1,5 +1,4 @@
 -- Laws of the bench store. Callers start at StoreLaws and Theorems.
-pub mod PartLaws
 pub mod CheckLaws
 pub mod ReadLaws
 pub mod AppendLaws

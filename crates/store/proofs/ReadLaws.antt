@@ -25,15 +25,15 @@ module _ (s : List ℕ) (n i : ℕ) (name : AnswerName) (whole : positionFrom na
   unfolding positionFrom
   position-end p h = let e : n - i ≡ 0 = omega arith in rw (← p, whole, e)
 
-  module _ (more : i < n) (other : AnswerName) (is : other ≡ nameAt narrow i s) where
-    position-turn : positionFrom narrow n 0 name s ≡ cond (sameAnswer other name) i (positionFrom narrow (n - (i + 1)) (i + 1) name s)
+  module _ (more : i < n) where
+    position-turn : positionFrom narrow n 0 name s ≡ cond (sameAnswer (nameAt narrow i s) name) i (positionFrom narrow (n - (i + 1)) (i + 1) name s)
     unfolding positionFrom
-    position-turn = let e : n - i ≡ suc (n - (i + 1)) = omega arith in rw (whole, e, is)
+    position-turn = let e : n - i ≡ suc (n - (i + 1)) = omega arith in rw (whole, e)
 
-    pub position-hit : n ≡ answers narrow s → sameAnswer other name ≡ true → i ≡ position narrow name s
+    pub position-hit : n ≡ answers narrow s → sameAnswer (nameAt narrow i s) name ≡ true → i ≡ position narrow name s
     position-hit p h = rw (← p, position-turn, h)
 
-    pub position-miss : sameAnswer other name ≡ false → positionFrom narrow n 0 name s ≡ positionFrom narrow (n - (i + 1)) (i + 1) name s
+    pub position-miss : sameAnswer (nameAt narrow i s) name ≡ false → positionFrom narrow n 0 name s ≡ positionFrom narrow (n - (i + 1)) (i + 1) name s
     position-miss h = position-turn ∙ rw h
 
 -- A search in a checked store; i is the position, n the count

@@ -15,7 +15,7 @@ use Rattle.store.specs.Layout.{narrow, answers, streamLength, storeLengt
 use Rattle.store.specs.Check.{storeNumber}
 use Rattle.store.specs.Read.{position}
 use Rattle.store.specs.Append.{nameOf, answerNumber, roomNumber, appendNumber}
-use Rattle.store.proofs.PartLaws.{Both, unless-is, unless-fails, unless-either, or-is}
+use Rattle.octets.proofs.OrderLaws.{Both, unless-is, unless-fails, unless-either, or-is}
 use Rattle.store.proofs.PositionLaws.{HeldAs, Missing, held-position, position-held, missing-position, position-missing}
 use Rattle.store.proofs.StoreLaws.{store-either}
 use Rattle.store.proofs.AppendLaws.{accepted}

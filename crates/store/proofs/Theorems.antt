@@ -15,7 +15,7 @@ use Rattle.store.specs.Layout.{narrow, answers, streamLength, entryOffse
 use Rattle.store.specs.Check.{placeRight, placesRight, answerRight, namedFrom, storeNumber}
 use Rattle.store.specs.Read.{positionFrom, position, lookupNumber, lookupPart, streamPart}
 use Rattle.store.specs.Append.{nameOf, appendNumber, appendOut}
-use Rattle.store.proofs.PartLaws.{byte-in}
+use Rattle.octets.proofs.PartLaws.{byte-in}
 use Rattle.store.proofs.StoreLaws.{unbroken, unbroken-zero, held, place-facts, place-built, names-at, answers-built, names-built, lookup-zero, lookup-missing, lookup-empty, found, position-of, lookup-of, stream-part}
 use Rattle.store.proofs.PositionLaws.{position-named, position-first, named-position}
 use Rattle.store.proofs.AppendLaws.{Accepted, accepted, answer-long, answer-begun, answer-allowed}

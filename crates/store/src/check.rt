@@ -85,7 +85,7 @@ fn named_before(store: &[u8], count: usize, name: AnswerName) -> bool
 {
     let mut j = 0;
     while j < count {
-        if catalog::same_answer(crate::layout::name_at(store, j), name) {
+        if crate::layout::has_name(store, j, name) {
             return true;
         }
         j += 1;

@@ -3,7 +3,8 @@ use catalog::AnswerName;
 ghost use mathlib.Core.Path.{_≡_};
 ghost use Prim.Native.Nat.{_<_};
 ghost use Rattle.octets.specs.BigEndian.{numberAt};
-ghost use Rattle.store.specs.Layout.{narrow, answers, streamLength, streamStart, entryOffset, entryLength, answerStart, nameAt};
+ghost use Rattle.catalog.specs.Name.{sameAnswer};
+ghost use Rattle.store.specs.Layout.{narrow, answers, streamLength, streamStart, entryDay, entryOffset, entryLength, answerStart, nameAt};
 
 // The width of count, stream length, offset and length.
 pub(crate) const FIELD: usize = 2;
@@ -42,6 +43,13 @@ pub(crate) fn stream_start(store: &[u8]) -> usize
     HEADER + ENTRY * answers(store)
 }
 
+fn entry_day(store: &[u8], i: usize) -> u32
+    requires { ⌜ i < 4294967296 ⌝ }
+    ensures { λ r. ⌜ r ≡ entryDay narrow i (now (store .entry)) ⌝ }
+{
+    octets::big_endian::number_at(store, HEADER + ENTRY * i, DAY)
+}
+
 pub(crate) fn entry_offset(store: &[u8], i: usize) -> usize
     requires { ⌜ i < 4294967296 ⌝ }
     ensures { λ r. ⌜ (r ≡ entryOffset narrow i (now (store .entry))) × (r < 4294967296) ⌝ }
@@ -71,6 +79,17 @@ pub(crate) fn name_at(store: &[u8], i: usize) -> AnswerName
 {
     AnswerName {
         trep: octets::big_endian::byte_at(store, answer_start(store, i) + 1),
-        day: octets::big_endian::number_at(store, HEADER + ENTRY * i, DAY),
+        day: entry_day(store, i),
     }
+}
+
+// Whether answer `i` has this name. Most names differ in the day already, and it stands in the entry: the answer is read only behind it.
+pub(crate) fn has_name(store: &[u8], i: usize, name: AnswerName) -> bool
+    requires { ⌜ i < 4294967296 ⌝ }
+    ensures { λ r. ⌜ r ≡ sameAnswer (nameAt narrow i (now (store .entry))) name ⌝ }
+{
+    if entry_day(store, i) != name.day {
+        return false;
+    }
+    catalog::same_answer(name_at(store, i), name)
 }

@@ -15,7 +15,7 @@ pub(crate) fn position(store: &[u8], name: AnswerName) -> usize
     let n = crate::layout::answers(store);
     let mut i = 0;
     while i < n {
-        if catalog::same_answer(crate::layout::name_at(store, i), name) {
+        if crate::layout::has_name(store, i, name) {
             return i;
         }
         i += 1;

@@ -1,14 +1,15 @@
 -- The calls: their numbers from the tests of the code, and what they hand back.
 use Prim.Native.Nat.{ℕ, _+_, _<_, _≤_}
-use mathlib.Core.Bool.{Bool, true, false, cond, not, _&&_}
+use mathlib.Core.Bool.{true, false, not, _&&_}
 use mathlib.Core.List.{List, []}
 use mathlib.Core.Path.{_≡_, refl, sym, ap, _∙_}
 use native.Mathlib.Omega.{arith}
-use lib.Dec.{eqb, leb}
+use lib.Dec.{leb}
 use lib.ListN.{length}
-use borrow.Author.Tests.{le-leb, lt-leb, eq-eqb, ne-eqb, leb-true, eqb-false}
+use borrow.Author.Tests.{le-leb, lt-leb, eq-eqb, ne-eqb, leb-true}
 use Rattle.octets.specs.Numbers.{changedBy}
 use Rattle.octets.specs.Buffer.{front}
+use Rattle.octets.proofs.OrderLaws.{unless-is, or-zero}
 use Rattle.octets.proofs.CallLaws.{kept-by, changed-by}
 use Rattle.octets.proofs.Tests.{and-left, and-right}
 use Rattle.frame.specs.declared.Addresses.{Addresses}
@@ -23,8 +24,8 @@ use Rattle.tool.specs.declared.Meaning.{Meaning}
 use Rattle.tool.specs.State.{isTransfer, isWaiting, possible}
 use Rattle.tool.specs.Event.{newBytes, receivedBy, arrivalMeaning, arrivalBytes, takes, stateAfter, sentAfter, roomAfter}
 use Rattle.tool.specs.Call.{requestNumber, beginNumber, eventNumber}
-use Rattle.tool.proofs.StateLaws.{WaitingTransfer, waiting-transfer}
-use Rattle.tool.proofs.EventLaws.{Taken, taken}
+use Rattle.tool.proofs.StateLaws.{waiting-transfer}
+use Rattle.tool.proofs.EventLaws.{taken}
 
 -- The number of a begin
 
@@ -62,16 +63,13 @@ module _ (t : ToolState) (request : Request) (name : AnswerName) (out r : ℕ) (
   unfolding beginNumber
   begin-right z w h = rw (← e, eq-eqb r 0 z, w, le-leb 260 out h)
 
-begin-tests : (n : ℕ) (z w l : Bool) → cond z (cond (not w) (cond l 0 4) 11) n ≡ 0 → eqb n 0 ≡ z → l ≡ true
-begin-tests n true false true e q = refl
-begin-tests n true false false e q = absurd (omega arith)
-begin-tests n true true l e q = absurd (omega arith)
-begin-tests n false w l e q = absurd (eqb-false n 0 q e)
-
 -- a begin that is not refused has room for its frame; r is its number
 pub begin-room : (t : ToolState) (request : Request) (name : AnswerName) (out r : ℕ) → r ≡ beginNumber t request name out → r ≡ 0 → 260 ≤ out
 unfolding beginNumber
-begin-room t request name out r e z = leb-true 260 out (begin-tests (requestNumber request name) (eqb (requestNumber request name) 0) (isWaiting (t .outcome)) (leb 260 out) (sym e ∙ z) refl)
+begin-room t request name out r e z =
+    let q = or-zero (requestNumber request name) _ (sym e ∙ z) in
+    let w = unless-is (not (isWaiting (t .outcome))) 11 _ 0 refl (q .rest) in
+    leb-true 260 out (unless-is (leb 260 out) 4 0 0 refl (w .rest) .first)
 
 -- The number of an event
 
@@ -92,11 +90,6 @@ module _ (t : ToolState) (room out : ℕ) where
   unfolding eventNumber
   event-right w p h = rw (w, p, le-leb 260 out h)
 
-event-tests : (w l : Bool) → _≡_ {A = ℕ} (cond w (cond l 0 4) 11) 0 → (w ≡ true) × (l ≡ true)
-event-tests true true e = (refl, refl)
-event-tests true false e = absurd (omega arith)
-event-tests false l e = absurd (omega arith)
-
 -- what number 0 says of an event
 pub record Heard (t : ToolState) (room out : ℕ) : Type 0 where
   pub waiting : isWaiting (t .outcome) ≡ true
@@ -106,11 +99,11 @@ pub record Heard (t : ToolState) (room out : ℕ) : Type 0 where
 pub heard : (t : ToolState) (room out : ℕ) → eventNumber t room out ≡ 0 → Heard t room out
 unfolding eventNumber
 heard t room out e =
-    let q = event-tests (isWaiting (t .outcome) && possible room t) (leb 260 out) e in
+    let q = unless-is (isWaiting (t .outcome) && possible room t) 11 _ 0 refl e in
     record {
-      waiting = and-left (isWaiting (t .outcome)) _ (q .0);
-      possibly = and-right (isWaiting (t .outcome)) _ (q .0);
-      outRoom = leb-true 260 out (q .1);
+      waiting = and-left (isWaiting (t .outcome)) _ (q .first);
+      possibly = and-right (isWaiting (t .outcome)) _ (q .first);
+      outRoom = leb-true 260 out (unless-is (leb 260 out) 4 0 0 refl (q .rest) .first);
     }
 
 pub event-room : (t : ToolState) (room out r : ℕ) → r ≡ eventNumber t room out → r ≡ 0 → 260 ≤ out

@@ -1,11 +1,11 @@
 -- What a string that arrives means, from the tests of the code; and what is known where its bytes are taken.
 use Prim.Native.Nat.{ℕ, _+_, _-_, _<_, _≤_}
-use mathlib.Core.Bool.{Bool, true, false, cond, _&&_}
-use mathlib.Core.List.{List, []}
-use mathlib.Core.Path.{_≡_, refl, sym, ap, _∙_}
+use mathlib.Core.Bool.{Bool, true, false, cond}
+use mathlib.Core.List.{List}
+use mathlib.Core.Path.{_≡_, refl, ap, _∙_}
 use native.Mathlib.Omega.{arith}
 use lib.Dec.{eqb, ltb}
-use lib.ListN.{length, getD, take, drop, length-take, length-drop}
+use lib.ListN.{length, getD, length-take, length-drop}
 use borrow.Author.Tests.{eq-eqb, ne-eqb, ltb-true, eqb-false}
 use Rattle.octets.specs.Buffer.{sameBytes, partAt}
 use Rattle.octets.proofs.Tests.{and-left}
@@ -17,11 +17,10 @@ use Rattle.split.specs.declared.Received.{Received}
 use Rattle.split.specs.declared.Received.the-variants.{Whole, Full, Last, Above, Other}
 use Rattle.tool.specs.declared.ToolState.{ToolState}
 use Rattle.tool.specs.declared.Meaning.{Meaning}
-use Rattle.tool.specs.declared.Meaning.the-variants.{Ignored, FailedWait, Confirmed, WholeAnswer, SubMessageTaken, LastTaken, NoRoomForAnswer, NoRoomForSubMessage, RefusedBy}
-use Rattle.tool.specs.State.{isTransfer, isWaiting, possible}
+use Rattle.tool.specs.declared.Meaning.the-variants.{Ignored, FailedWait, Confirmed, RefusedBy}
+use Rattle.tool.specs.State.{isTransfer}
 use Rattle.tool.specs.Sent.{sidSent, replyWanted}
 use Rattle.tool.specs.Event.{newBytes, fits, meaningOf, receivedBy, transferMeaning, isRefusal, refusalMeaning, dataMeaning, arrivalMeaning, arrivalBytes, takes}
-use Rattle.tool.proofs.StateLaws.{WaitingTransfer, waiting-transfer}
 use Rattle.tool.proofs.RoomLaws.{fits-in-room, fits-in-most}
 
 -- Refusals

@@ -1,15 +1,14 @@
 -- The new bytes of a frame, and the room that holds them behind the others.
 use Prim.Native.Nat.{ℕ, _+_, _-_, _<_, _≤_}
-use mathlib.Core.Bool.{Bool, true, false, cond, _&&_}
-use mathlib.Core.List.{List, [], _∷_, _++_, append-assoc, append-nil}
+use mathlib.Core.Bool.{Bool, true, false, cond}
+use mathlib.Core.List.{List, [], _∷_, _++_}
 use mathlib.Core.Path.{_≡_, refl, sym, ap, _∙_}
 use native.Mathlib.Omega.{arith}
 use lib.Dec.{eqb, leb}
-use lib.ListN.{length, take, drop, length-append, length-take, length-drop, take-append-drop}
-use lib.Seq.{take-append-seam, drop-append-add, drop-drop, take-at, length-take-le}
-use borrow.Author.Tests.{le-leb, lt-leb, eq-eqb, ne-eqb, leb-true}
+use lib.ListN.{length, take, drop, length-append, length-take}
+use borrow.Author.Tests.{le-leb, lt-leb, leb-true}
 use Rattle.octets.specs.Buffer.{put, copied}
-use Rattle.octets.proofs.BufferLaws.{lent-copy, length-put}
+use Rattle.octets.proofs.BufferLaws.{lent-copy, length-put, put-put, put-none}
 use Rattle.octets.proofs.Tests.{and-left, and-right}
 use Rattle.split.specs.Join.{carriedBy}
 use Rattle.split.specs.declared.Received.{Received}
@@ -18,21 +17,6 @@ use Rattle.tool.specs.declared.ToolState.{ToolState}
 use Rattle.tool.specs.declared.Meaning.{Meaning}
 use Rattle.tool.specs.declared.Meaning.the-variants.{Ignored, FailedWait, Confirmed, WholeAnswer, SubMessageTaken, LastTaken, NoRoomForAnswer, NoRoomForSubMessage, RefusedBy}
 use Rattle.tool.specs.Event.{newBytes, fits, receivedBy, takes, roomAfter}
-
--- Two puts one behind the other are one; nothing put changes nothing
-
-pub put-put : (h : ℕ) (v w o : List ℕ) → h + length v ≤ length o → put (h + length v) w (put h v o) ≡ put h (v ++ w) o
-unfolding put
-put-put h v w o m =
-    let p : length (take h o ++ v) ≡ h + length v = simp (length-append, length-take) (omega arith) in
-    let q : h + length v + length w ≡ h + length (v ++ w) = omega (arith, length-append v w) in
-    let r : drop (h + length v + length w) ((take h o ++ v) ++ drop (h + length v) o) ≡ drop (h + length (v ++ w)) o =
-    rw (← p, drop-append-add, drop-drop, p, q) in
-    rw (r, take-at (take h o ++ v) (drop (h + length v) o) (h + length v) p) (ap (λ (l : List ℕ). l ++ drop (h + length (v ++ w)) o) (append-assoc (take h o) v w))
-
-pub put-none : (h : ℕ) (o : List ℕ) → o ≡ put h [] o
-unfolding put
-put-none h o = let z : h + 0 ≡ h = omega arith in rw (z, append-nil) (sym (take-append-drop h o))
 
 -- header and data in the room: the tail from h on lent to the copy, then the tail behind the header
 pub kept : (h : ℕ) (v w o x y : List ℕ) → h + length v + length w ≤ length o → x ≡ copied v (take (length o - h) (drop h o))

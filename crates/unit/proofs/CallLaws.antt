@@ -7,8 +7,10 @@ use native.Mathlib.Omega.{arith}
 use lib.Dec.{eqb, leb}
 use lib.ListN.{length, getD}
 use borrow.Author.Tests.{lt-ltb, le-ltb, eq-eqb, ne-eqb, leb-true, eqb-true}
+use Rattle.octets.specs.Order.{unless}
 use Rattle.octets.specs.Buffer.{partAt, sameBytes, front}
 use Rattle.octets.specs.declared.Place.{Place}
+use Rattle.octets.proofs.OrderLaws.{Both, unless-is}
 use Rattle.octets.proofs.Tests.{and-left, and-right}
 use Rattle.frame.specs.declared.End.the-variants as ends
 use Rattle.frame.specs.Frame.{lab, isStart, startRight, addressed, judged, dataPlace, dataOf}
@@ -119,25 +121,20 @@ state-sent u v x name k place p e f q = rw (e, ← f) q
 
 -- A call that is not refused; n is its number behind that of the store
 
-accepted-tests : (p r : Bool) (h : ℕ) → cond p (cond r h 4) 11 ≡ 0 → (p ≡ true) × (r ≡ true) × (h ≡ 0)
-accepted-tests true true h e = (refl, refl, e)
-accepted-tests true false h e = absurd (omega arith)
-accepted-tests false r h e = absurd (omega arith)
-
 module _ (u : UnitState) (place heard : Place) (room n : ℕ) (given : n ≡ numberBehind u place room (heard .number)) (zero : n ≡ 0) where
-  accepted : (possibleAt u place ≡ true) × (leb 260 room ≡ true) × (heard .number ≡ 0)
+  possibly : Both (possibleAt u place ≡ true) (unless (leb 260 room) 4 (heard .number) ≡ 0)
   unfolding numberBehind
-  accepted = accepted-tests (possibleAt u place) (leb 260 room) (heard .number) (sym given ∙ zero)
+  possibly = unless-is (possibleAt u place) 11 _ 0 refl (sym given ∙ zero)
 
   pub accepted-room : 260 ≤ room
-  accepted-room = leb-true _ _ (accepted .1)
+  accepted-room = leb-true _ _ (unless-is (leb 260 room) 4 (heard .number) 0 refl (possibly .rest) .first)
 
   pub accepted-frame : heard .number ≡ 0
-  accepted-frame = accepted .2
+  accepted-frame = unless-is (leb 260 room) 4 (heard .number) 0 refl (possibly .rest) .rest
 
   pub accepted-piece : (s b : List ℕ) (k : ℕ) (x : Reaction) → k ≡ storeNumber narrow s → k ≡ 0 → place ≡ placeSent s (u .phase) → x ≡ reactionTo lab s u b → pieceSent s x ≡ 0
   accepted-piece s b k x e z q r =
-      rw r (sends-what-is s (sym e ∙ z) lab u b (sym (possible-sent s u place (possibleAt u place) q refl) ∙ accepted .0))
+      rw r (sends-what-is s (sym e ∙ z) lab u b (sym (possible-sent s u place (possibleAt u place) q refl) ∙ possibly .first))
 
 -- What the call hands back, from its number r
 module _ (s : List ℕ) (u : UnitState) (b : List ℕ) (r : ℕ) where

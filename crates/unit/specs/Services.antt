@@ -1,8 +1,8 @@
 -- The services of document 01's table, row by row. Each takes the data of a good frame heard when not closed, d; its checks run in the order
 -- "at least its shortest length (13), sub function or TRTP known (12), exact length (13), values (31), phase (22), data held (FA)".
 use Prim.Native.Nat.{ℕ, _+_, _-_}
-use mathlib.Core.Bool.{Bool, cond, not, _&&_, _||_}
-use mathlib.Core.List.{List, _∷_}
+use mathlib.Core.Bool.{cond, not, _&&_, _||_}
+use mathlib.Core.List.{List}
 use lib.ListN.{length, getD}
 use lib.Dec.{eqb, leb}
 use Rattle.octets.specs.Order.{unless}

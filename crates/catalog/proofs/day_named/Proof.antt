@@ -1,6 +1,5 @@
 -- Activities carry a day, other answers none.
 use Rattle.octets.proofs.Tests.{cond-t, cond-f, flag-t, flag-f, eqb-same}
-use mathlib.Core.Path.{refl}
 use Rattle.catalog.specs.Name.{dayNamed}
 use borrow.Author.Needs.{needs}
 use Rattle.catalog.proofs.day_named.Statement.{statement}

@@ -1,6 +1,6 @@
 -- What is left of the column decides.
 use Prim.Native.Nat.{_-_, _≤_}
-use mathlib.Core.Path.{_≡_, refl}
+use mathlib.Core.Path.{_≡_}
 use lib.ListN.{drop}
 use Rattle.catalog.specs.Table.{rows, inColumn}
 use Rattle.catalog.proofs.TableLaws.{column-hit, column-miss, column-end, absent-unknown}

@@ -2,7 +2,6 @@
 use borrow.Author.Tests.{eq-eqb, ne-eqb}
 use Rattle.octets.proofs.Tests.{cond-t, cond-f}
 use Rattle.host.specs.Packed.{requestFrom}
-use borrow.Author.Needs.{needs}
 use Rattle.host.proofs.pack_tool.request_from.Statement.{statement}
 use Rattle.host.proofs.pack_tool.request_from.Tie as tie
 

@@ -1,5 +1,4 @@
 -- Each return is a law of the field, as for reading.
-use mathlib.Core.Path.{refl}
 use Rattle.octets.proofs.NumberLaws.{write-start, write-end, write-other, write-field}
 use borrow.Author.Needs.{needs}
 use Rattle.octets.proofs.big_endian.write_number.Statement.{statement}

@@ -1,6 +1,6 @@
 -- What is left of both decides, and the bytes passed are the same.
 use Prim.Native.Nat.{_-_, _≤_}
-use mathlib.Core.Path.{_≡_, refl}
+use mathlib.Core.Path.{_≡_}
 use lib.ListN.{length, drop}
 use Rattle.octets.specs.Buffer.{sameBytes}
 use Rattle.octets.proofs.BufferLaws.{same-length, same-more, same-not, same-all}

@@ -1,7 +1,6 @@
 -- Up to 252 bytes go in one frame.
 use Rattle.octets.proofs.Tests.{cond-t, cond-f}
 use borrow.Author.Tests.{lt-ltb, le-ltb}
-use mathlib.Core.Path.{refl}
 use Rattle.split.specs.Split.{countOf}
 use borrow.Author.Needs.{needs}
 use Rattle.split.proofs.pieces.count_of.Statement.{statement}

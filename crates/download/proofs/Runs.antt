@@ -1,0 +1,28 @@
+-- What concrete stores and runs compute with: to unfold one of these two is to unfold every definition that its line names.
+use Rattle.octets.specs.BigEndian.{numberAt}
+use Rattle.octets.specs.Buffer.{front, put}
+use Rattle.frame.specs.Frame.{closed, frameOf, countRight, startRight, addressed, checksumRight, judged, dataPlace, dataOf}
+use Rattle.catalog.specs.Table.{knownTo, listed, isActivities}
+use Rattle.catalog.specs.Name.{firstSecond, dayNamed, sameAnswer, nameNumber}
+use Rattle.split.specs.Split.{countOf, carries, subField, subFrame}
+use Rattle.split.specs.Join.{isAnswer, receivedAs}
+use Rattle.store.specs.Layout.{nameAt}
+use Rattle.store.specs.Check.{headerFits, countsFit, placeRight, placesRight, answerRight, answersRight, namedFrom, namesDiffer, storeNumber}
+use Rattle.store.specs.Read.{positionFrom, lookupNumber, lookupPlace, lookupPart}
+use Rattle.unit.specs.State.{sendable, phasePossible, possible}
+use Rattle.unit.specs.Services.{requestName, answerFrom, onTransfer, onCode, onSending, onAcknowledge}
+use Rattle.unit.specs.Call.{onData, reactionTo, stateAfter as unitAfter, replyData, replyTo, unitNumber, unitState, unitReply, unitResult}
+use Rattle.tool.specs.State.{heldRight, transferPossible, possible as toolPossible}
+use Rattle.tool.specs.Sent.{transferRequest, acknowledgement, transferData, frameSent, sidSent}
+use Rattle.tool.specs.Event.{newBytes, fits, meaningOf, transferMeaning, isRefusal, refusalMeaning, dataMeaning, arrivalMeaning, arrivalBytes, afterFailedWait, stateAfter, sentAfter, roomAfter}
+use Rattle.tool.specs.Call.{requestNumber, beginNumber, beginState, beginSent, beginResult, eventNumber, eventState, eventSent, eventRoom, eventResult}
+
+-- a lookup in a store
+unfoldable pub lookups : Unit {0}
+unfolding numberAt nameAt headerFits countsFit placeRight placesRight answerRight answersRight namedFrom namesDiffer storeNumber positionFrom lookupNumber lookupPlace lookupPart knownTo listed isActivities firstSecond dayNamed sameAnswer nameNumber
+lookups = tt
+
+-- calls of both ends
+unfoldable pub calls : Unit {0}
+unfolding lookups closed frameOf countRight startRight addressed checksumRight judged dataPlace dataOf countOf carries subField subFrame possible sendable phasePossible requestName answerFrom onTransfer onCode onSending onAcknowledge onData reactionTo unitAfter replyData replyTo unitNumber unitState unitReply unitResult transferRequest acknowledgement transferData frameSent sidSent heldRight transferPossible toolPossible requestNumber beginNumber beginState beginSent beginResult isAnswer receivedAs newBytes fits meaningOf transferMeaning isRefusal refusalMeaning dataMeaning arrivalMeaning arrivalBytes afterFailedWait stateAfter sentAfter roomAfter eventNumber eventState eventSent eventRoom eventResult front put
+calls = tt
