@@ -1,7 +1,6 @@
 // The calls for C hosts on numbers and byte slices (host/include/tacho.h). Every call is total; the states of unit and tool are packed bytes.
 pub mod arrays;
 pub mod bench_store;
-mod fields;
 pub mod frames;
 mod pack_tool;
 mod pack_unit;

@@ -29,13 +29,15 @@ fn long(byte: u8) -> u32
     byte as u32
 }
 
-fn two(a: u8, b: u8) -> u32
-    ensures { λ r. ⌜ r ≡ numberOf (a ∷ b ∷ []) ⌝ }
+// The number in two bytes.
+pub fn two(high: u8, low: u8) -> u16
+    ensures { λ r. ⌜ r ≡ numberOf (high ∷ low ∷ []) ⌝ }
 {
-    long(a) * 256 + long(b)
+    (high as u16) * 256 + (low as u16)
 }
 
-fn four(a: u8, b: u8, c: u8, d: u8) -> u32
+// The number in four bytes.
+pub fn four(a: u8, b: u8, c: u8, d: u8) -> u32
     ensures { λ r. ⌜ r ≡ numberOf (a ∷ b ∷ c ∷ d ∷ []) ⌝ }
 {
     ((long(a) * 256 + long(b)) * 256 + long(c)) * 256 + long(d)
@@ -53,7 +55,7 @@ pub fn number_at(bytes: &[u8], at: usize, width: usize) -> u32
         return 0;
     }
     if width == 2 {
-        return two(bytes[at], bytes[at + 1]);
+        return two(bytes[at], bytes[at + 1]) as u32;
     }
     if width == 4 {
         return four(bytes[at], bytes[at + 1], bytes[at + 2], bytes[at + 3]);

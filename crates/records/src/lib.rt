@@ -6,10 +6,8 @@ use octets::Place;
 use octets::numbers::NO_SUCH;
 use octets::numbers::NOT_ARRAYS;
 ghost use mathlib.Core.Path.{_≡_};
-ghost use mathlib.Core.List.{[], _∷_};
 ghost use Prim.Native.Nat.{_*_, _≤_};
 ghost use lib.ListN.{length};
-ghost use Rattle.octets.specs.BigEndian.{numberOf};
 ghost use Rattle.octets.specs.Buffer.{partAt};
 ghost use Rattle.records.specs.Arrays.{foundAt, headerOf, arrayCount, arrayAt, arrayRecords, recordIn, recordPlace, recordOf};
 
@@ -49,13 +47,6 @@ fn no_part(number: u8) -> Place
     }
 }
 
-// The number in a field of two bytes, most significant first.
-fn field(high: u8, low: u8) -> u16
-    ensures { λ r. ⌜ r ≡ numberOf (high ∷ low ∷ []) ⌝ }
-{
-    (high as u16) * 256 + (low as u16)
-}
-
 // The bytes of so many records.
 fn bytes_of(size: u16, records: u16) -> usize
     ensures { λ r. ⌜ r ≡ size * records ⌝ }
@@ -72,8 +63,8 @@ fn found_at(body: &[u8], at: usize) -> Array
     if left < 5 {
         return no_array(NOT_ARRAYS);
     }
-    let record_size = field(body[at + 1], body[at + 2]);
-    let record_count = field(body[at + 3], body[at + 4]);
+    let record_size = octets::big_endian::two(body[at + 1], body[at + 2]);
+    let record_count = octets::big_endian::two(body[at + 3], body[at + 4]);
     if record_size == 0 {
         return no_array(NOT_ARRAYS);
     }

@@ -1,18 +1,55 @@
 -- The five checks, from the tests of the code: each loop a turn at a time, where what is left decides.
-use Prim.Native.Nat.{ℕ, suc, _+_, _-_, _<_, _≤_}
+use Prim.Native.Nat.{ℕ, suc, _+_, _-_, _*_, _<_, _≤_}
 use mathlib.Core.Bool.{Bool, true, false, not, _&&_, _||_}
-use mathlib.Core.List.{List}
-use mathlib.Core.Path.{_≡_, sym, _∙_}
+use mathlib.Core.List.{List, [], _∷_}
+use mathlib.Core.Path.{_≡_, refl, sym, _∙_}
 use native.Mathlib.Omega.{arith}
 use native.Mathlib.Nat.{sub-zero}
 use lib.Dec.{eqb, leb}
 use lib.ListN.{length, getD}
-use borrow.Author.Tests.{le-leb, lt-leb, eq-eqb, ne-eqb}
+use borrow.Author.Tests.{le-leb, lt-leb, eq-eqb, ne-eqb, leb-true}
+use Rattle.octets.specs.BigEndian.{numberOf}
+use Rattle.octets.proofs.Tests.{and-right}
+use Rattle.octets.proofs.OrderLaws.{unless-is}
+use Rattle.octets.proofs.NumberLaws.{read-two, read-four}
 use Rattle.catalog.specs.Name.{sameAnswer, nameNumber}
 use Rattle.catalog.specs.declared.AnswerName.{AnswerName}
 use Rattle.catalog.proofs.NameLaws.{other-day}
-use Rattle.store.specs.Layout.{narrow, answers, streamLength, streamStart, entryDay, entryOffset, entryLength, answerStart, nameAt}
-use Rattle.store.specs.Check.{headerFits, countsFit, placeRight, placesRight, answerRight, answersRight, namedFrom, namesDiffer}
+use Rattle.store.specs.Layout.{narrow, answers, streamLength, streamStart, storeLength, entryDay, entryOffset, entryLength, answerStart, nameAt}
+use Rattle.store.specs.Check.{headerFits, countsFit, placeRight, placesRight, answerRight, answersRight, namedFrom, namesDiffer, storeNumber}
+
+-- the fields of an entry that lies in the buffer, from its bytes
+module _ (s : List ℕ) (i r : ℕ) (h : 12 + 8 * i ≤ length s) where
+  pub day-read : r ≡ numberOf (getD s (4 + 8 * i) 0 ∷ getD s (4 + 8 * i + 1) 0 ∷ getD s (4 + 8 * i + 2) 0 ∷ getD s (4 + 8 * i + 3) 0 ∷ []) → r ≡ entryDay narrow i s
+  day-read e = read-four (4 + 8 * i) s r 4 (omega arith) (omega arith) refl e
+
+  pub offset-read : r ≡ numberOf (getD s (4 + 8 * i + 4) 0 ∷ getD s (4 + 8 * i + 4 + 1) 0 ∷ []) → r ≡ entryOffset narrow i s
+  offset-read e = read-two (4 + 8 * i + 4) s r 2 (omega arith) (omega arith) refl e
+
+  pub length-read : r ≡ numberOf (getD s (4 + 8 * i + 4 + 2) 0 ∷ getD s (4 + 8 * i + 4 + 2 + 1) 0 ∷ []) → r ≡ entryLength narrow i s
+  length-read e = read-two (4 + 8 * i + 4 + 2) s r 2 (omega arith) (omega arith) refl e
+
+-- which entries lie in it
+pub header-start : (s : List ℕ) → headerFits narrow s ≡ true → streamStart narrow s ≤ length s
+unfolding headerFits
+header-start s h = let w : storeLength narrow s ≤ length s = leb-true _ _ (and-right (leb 4 (length s)) _ h) in omega arith
+
+pub whole-header : (s : List ℕ) → storeNumber narrow s ≡ 0 → headerFits narrow s ≡ true
+unfolding storeNumber
+whole-header s e = unless-is (headerFits narrow s) 5 _ 0 refl e .first
+
+pub whole-start : (s : List ℕ) (r : ℕ) → r ≡ storeNumber narrow s → r ≡ 0 → streamStart narrow s ≤ length s
+whole-start s r e z = header-start s (whole-header s (sym e ∙ z))
+
+module _ (s : List ℕ) (i n : ℕ) (q : n ≡ answers narrow s) (h : i < n) where
+  entry-in : streamStart narrow s ≤ length s → 12 + 8 * i ≤ length s
+  entry-in l = omega arith
+
+  pub header-entry : headerFits narrow s ≡ true → 12 + 8 * i ≤ length s
+  header-entry f = entry-in (header-start s f)
+
+  pub whole-entry : (r : ℕ) → r ≡ storeNumber narrow s → r ≡ 0 → 12 + 8 * i ≤ length s
+  whole-entry r e z = entry-in (whole-start s r e z)
 
 -- a name from its two parts
 pub name-is : (s : List ℕ) (i start trep day : ℕ) → start ≡ answerStart narrow i s → trep ≡ getD s (start + 1) 0 → day ≡ entryDay narrow i s → _≡_ {A = AnswerName} (record { trep = trep; day = day }) (nameAt narrow i s)

@@ -2,7 +2,7 @@
 use Prim.Native.Nat.{ℕ, suc, _+_, _-_, _<_, _≤_}
 use mathlib.Core.Bool.{true, false, cond}
 use mathlib.Core.List.{List}
-use mathlib.Core.Path.{_≡_, ap, _∙_}
+use mathlib.Core.Path.{_≡_, sym, ap, _∙_}
 use native.Mathlib.Omega.{arith}
 use native.Mathlib.Nat.{sub-zero}
 use lib.Dec.{ltb}
@@ -12,8 +12,9 @@ use Rattle.catalog.specs.Name.{sameAnswer}
 use Rattle.catalog.specs.declared.AnswerName.{AnswerName}
 use Rattle.store.specs.declared.HeldAnswer.{HeldAnswer}
 use Rattle.store.specs.Layout.{narrow, answers, streamLength, streamStart, entryLength, answerStart, nameAt}
-use Rattle.store.specs.Check.{storeNumber}
+use Rattle.store.specs.Check.{headerFits, storeNumber}
 use Rattle.store.specs.Read.{positionFrom, position, findPlace, lookupNumber, lookupPlace, streamPlace, heldNumber, heldAnswer}
+use Rattle.store.proofs.CheckLaws.{whole-header}
 
 -- The search, a turn at a time
 
@@ -38,16 +39,20 @@ module _ (s : List ℕ) (n i : ℕ) (name : AnswerName) (whole : positionFrom na
 
 -- A search in a checked store; i is the position, n the count
 
-module _ (s : List ℕ) (name : AnswerName) (i n : ℕ) (p : i ≡ position narrow name s) (q : n ≡ answers narrow s) where
+pub find-broken : (s : List ℕ) (name : AnswerName) → headerFits narrow s ≡ false → _≡_ {A = Place} (record { number = 5; start = 0; len = 0 }) (findPlace narrow name s)
+unfolding findPlace
+find-broken s name f = rw f
+
+module _ (s : List ℕ) (name : AnswerName) (f : headerFits narrow s ≡ true) (i n : ℕ) (p : i ≡ position narrow name s) (q : n ≡ answers narrow s) where
   pub find-missing : n ≤ i → _≡_ {A = Place} (record { number = 6; start = 0; len = 0 }) (findPlace narrow name s)
   unfolding findPlace
-  find-missing h = rw (← p, ← q, le-ltb i n h)
+  find-missing h = rw (f, ← p, ← q, le-ltb i n h)
 
   pub find-found : (b l : ℕ) → i < n → b ≡ answerStart narrow i s → l ≡ entryLength narrow i s → _≡_ {A = Place} (record { number = 0; start = b; len = l }) (findPlace narrow name s)
   unfolding findPlace
   find-found b l h bs ls =
       let t : ltb (position narrow name s) (answers narrow s) ≡ true = rw (← p, ← q) (lt-ltb i n h) in
-      rw (t, ← p, bs, ls)
+      rw (f, t, ← p, bs, ls)
 
 -- A lookup; r is the number of the check
 
@@ -59,7 +64,10 @@ module _ (s : List ℕ) (name : AnswerName) (r : ℕ) (e : r ≡ storeNumber nar
   -- in an unbroken store a search is a lookup
   pub place-checked : (place : Place) → r ≡ 0 → place ≡ findPlace narrow name s → place ≡ lookupPlace narrow name s
   unfolding lookupPlace lookupNumber findPlace
-  place-checked place z q = rw (← e, z) q
+  place-checked place z q =
+      let f : headerFits narrow s ≡ true = whole-header s (sym e ∙ z) in
+      let h : storeNumber narrow s ≡ 0 = sym e ∙ z in
+      rw h (rw f at q)
 
 pub number-of-place : (s : List ℕ) (name : AnswerName) (place : Place) → place ≡ lookupPlace narrow name s → place .number ≡ lookupNumber narrow name s
 unfolding lookupPlace

@@ -4,14 +4,14 @@ use mathlib.Core.Bool.{cond}
 use mathlib.Core.List.{List}
 use lib.Dec.{ltb}
 use Rattle.octets.specs.Order.{unless, orElse}
-use Rattle.octets.specs.Numbers.{done, notHeld, changedBy, placeBy}
+use Rattle.octets.specs.Numbers.{done, storeBroken, notHeld, changedBy, placeBy}
 use Rattle.octets.specs.Buffer.{partAt}
 use Rattle.octets.specs.declared.Place.{Place}
 use Rattle.catalog.specs.Name.{sameAnswer}
 use Rattle.catalog.specs.declared.AnswerName.{AnswerName}
 use Rattle.store.specs.declared.HeldAnswer.{HeldAnswer}
 use Rattle.store.specs.Layout.{Form, answers, streamStart, streamLength, entryLength, answerStart, nameAt}
-use Rattle.store.specs.Check.{storeNumber}
+use Rattle.store.specs.Check.{headerFits, storeNumber}
 
 module _ (f : Form) where
   -- the first of k entries from the i-th on with that name; past them all where there is none
@@ -22,9 +22,13 @@ module _ (f : Form) where
   abbrev pub position : AnswerName → List ℕ → ℕ
   position name s = positionFrom (answers f s) 0 name s
 
-  -- finding an answer in a store that was checked: 6 where it is not held
+  -- 6 where no answer has that name
+  abbrev pub heldNumberOf : AnswerName → List ℕ → ℕ
+  heldNumberOf name s = unless (ltb (position name s) (answers f s)) notHeld done
+
+  -- finding an answer in a store that was checked before: 5 only where the buffer ends before what the header says
   abbrev pub findNumber : AnswerName → List ℕ → ℕ
-  findNumber name s = unless (ltb (position name s) (answers f s)) notHeld done
+  findNumber name s = unless (headerFits f s) storeBroken (heldNumberOf name s)
 
   unfoldable pub findPlace : AnswerName → List ℕ → Place
   findPlace name s =
@@ -32,7 +36,7 @@ module _ (f : Form) where
 
   -- "Lookup: 5, 6 (unlisted names too)"
   unfoldable pub lookupNumber : AnswerName → List ℕ → ℕ
-  lookupNumber name s = orElse (storeNumber f s) (findNumber name s)
+  lookupNumber name s = orElse (storeNumber f s) (heldNumberOf name s)
 
   -- "A lookup hands back the answer as part of the buffer, or 6"
   unfoldable pub lookupPlace : AnswerName → List ℕ → Place

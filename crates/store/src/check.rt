@@ -6,11 +6,13 @@ use crate::layout::HEADER;
 use catalog::AnswerName;
 use octets::numbers::STORE_BROKEN;
 ghost use mathlib.Core.Path.{_≡_};
-ghost use Prim.Native.Nat.{_<_};
-ghost use Rattle.store.specs.Layout.{narrow, answers};
+ghost use Prim.Native.Nat.{_+_, _*_, _≤_};
+ghost use lib.ListN.{length};
+ghost use Rattle.store.specs.Layout.{narrow, answers, streamStart};
 ghost use Rattle.store.specs.Check.{headerFits, countsFit, placesRight, answerRight, answersRight, namedFrom, namesDiffer, storeNumber};
 
-fn header_fits(store: &[u8]) -> bool
+// Whether the buffer holds its header, and what that says.
+pub(crate) fn header_fits(store: &[u8]) -> bool
     ensures { λ r. ⌜ r ≡ headerFits narrow (now (store .entry)) ⌝ }
 {
     if store.len() < HEADER {
@@ -30,6 +32,7 @@ fn counts_fit(store: &[u8]) -> bool
 
 // Whether the stream is filled without gap by the places that the entries name.
 fn places_right(store: &[u8]) -> bool
+    requires { ⌜ streamStart narrow (now store) ≤ length (now store) ⌝ }
     ensures { λ r. ⌜ r ≡ placesRight narrow (answers narrow (now (store .entry))) 0 0 (now (store .entry)) ⌝ }
 {
     let n = crate::layout::answers(store);
@@ -54,7 +57,7 @@ fn places_right(store: &[u8]) -> bool
 }
 
 fn answer_right(store: &[u8], i: usize) -> bool
-    requires { ⌜ i < 4294967296 ⌝ }
+    requires { ⌜ 12 + 8 * i ≤ length (now store) ⌝ }
     ensures { λ r. ⌜ r ≡ answerRight narrow i (now (store .entry)) ⌝ }
 {
     if octets::big_endian::byte_at(store, crate::layout::answer_start(store, i)) != 0x76 {
@@ -65,6 +68,7 @@ fn answer_right(store: &[u8], i: usize) -> bool
 
 // Whether each answer begins 76 and has a name that number 12 allows.
 fn answers_right(store: &[u8]) -> bool
+    requires { ⌜ streamStart narrow (now store) ≤ length (now store) ⌝ }
     ensures { λ r. ⌜ r ≡ answersRight narrow (answers narrow (now (store .entry))) 0 (now (store .entry)) ⌝ }
 {
     let n = crate::layout::answers(store);
@@ -80,7 +84,7 @@ fn answers_right(store: &[u8]) -> bool
 
 // Whether one of the first `count` answers has this name.
 fn named_before(store: &[u8], count: usize, name: AnswerName) -> bool
-    requires { ⌜ count < 4294967296 ⌝ }
+    requires { ⌜ 4 + 8 * count ≤ length (now store) ⌝ }
     ensures { λ r. ⌜ r ≡ namedFrom narrow count 0 name (now (store .entry)) ⌝ }
 {
     let mut j = 0;
@@ -95,6 +99,7 @@ fn named_before(store: &[u8], count: usize, name: AnswerName) -> bool
 
 // Whether no answer has the name of an earlier one.
 fn names_differ(store: &[u8]) -> bool
+    requires { ⌜ streamStart narrow (now store) ≤ length (now store) ⌝ }
     ensures { λ r. ⌜ r ≡ namesDiffer narrow (answers narrow (now (store .entry))) 0 (now (store .entry)) ⌝ }
 {
     let n = crate::layout::answers(store);

@@ -1,7 +1,8 @@
-// The fields of a store, and the names of its answers. Every number read is below 2^32, so that no sum of a few of them wraps.
+// The fields of a store, and the names of its answers. Every number read is bounded, so that no sum of a few of them wraps.
 use catalog::AnswerName;
 ghost use mathlib.Core.Path.{_≡_};
-ghost use Prim.Native.Nat.{_<_};
+ghost use Prim.Native.Nat.{_+_, _*_, _<_, _≤_};
+ghost use lib.ListN.{length};
 ghost use Rattle.octets.specs.BigEndian.{numberAt};
 ghost use Rattle.catalog.specs.Name.{sameAnswer};
 ghost use Rattle.store.specs.Layout.{narrow, answers, streamLength, streamStart, entryDay, entryOffset, entryLength, answerStart, nameAt};
@@ -43,38 +44,42 @@ pub(crate) fn stream_start(store: &[u8]) -> usize
     HEADER + ENTRY * answers(store)
 }
 
+// The readers of an entry ask that it lies in the buffer, and so test nothing.
 fn entry_day(store: &[u8], i: usize) -> u32
-    requires { ⌜ i < 4294967296 ⌝ }
+    requires { ⌜ 12 + 8 * i ≤ length (now store) ⌝ }
     ensures { λ r. ⌜ r ≡ entryDay narrow i (now (store .entry)) ⌝ }
 {
-    octets::big_endian::number_at(store, HEADER + ENTRY * i, DAY)
+    let at = HEADER + ENTRY * i;
+    octets::big_endian::four(store[at], store[at + 1], store[at + 2], store[at + 3])
 }
 
 pub(crate) fn entry_offset(store: &[u8], i: usize) -> usize
-    requires { ⌜ i < 4294967296 ⌝ }
-    ensures { λ r. ⌜ (r ≡ entryOffset narrow i (now (store .entry))) × (r < 4294967296) ⌝ }
+    requires { ⌜ 12 + 8 * i ≤ length (now store) ⌝ }
+    ensures { λ r. ⌜ (r ≡ entryOffset narrow i (now (store .entry))) × (r < 65536) ⌝ }
 {
-    field(store, HEADER + ENTRY * i + DAY)
+    let at = HEADER + ENTRY * i + DAY;
+    octets::big_endian::two(store[at], store[at + 1]) as usize
 }
 
 pub(crate) fn entry_length(store: &[u8], i: usize) -> usize
-    requires { ⌜ i < 4294967296 ⌝ }
-    ensures { λ r. ⌜ (r ≡ entryLength narrow i (now (store .entry))) × (r < 4294967296) ⌝ }
+    requires { ⌜ 12 + 8 * i ≤ length (now store) ⌝ }
+    ensures { λ r. ⌜ (r ≡ entryLength narrow i (now (store .entry))) × (r < 65536) ⌝ }
 {
-    field(store, HEADER + ENTRY * i + DAY + FIELD)
+    let at = HEADER + ENTRY * i + DAY + FIELD;
+    octets::big_endian::two(store[at], store[at + 1]) as usize
 }
 
 // Where answer `i` begins in the buffer.
 pub(crate) fn answer_start(store: &[u8], i: usize) -> usize
-    requires { ⌜ i < 4294967296 ⌝ }
-    ensures { λ r. ⌜ (r ≡ answerStart narrow i (now (store .entry))) × (r < 38654705668) ⌝ }
+    requires { ⌜ 12 + 8 * i ≤ length (now store) ⌝ }
+    ensures { λ r. ⌜ (r ≡ answerStart narrow i (now (store .entry))) × (r < 34359803908) ⌝ }
 {
     stream_start(store) + entry_offset(store, i)
 }
 
 // The TREP stands second in the answer, the day in its entry.
 pub(crate) fn name_at(store: &[u8], i: usize) -> AnswerName
-    requires { ⌜ i < 4294967296 ⌝ }
+    requires { ⌜ 12 + 8 * i ≤ length (now store) ⌝ }
     ensures { λ r. ⌜ r ≡ nameAt narrow i (now (store .entry)) ⌝ }
 {
     AnswerName {
@@ -85,7 +90,7 @@ pub(crate) fn name_at(store: &[u8], i: usize) -> AnswerName
 
 // Whether answer `i` has this name. Most names differ in the day already, and it stands in the entry: the answer is read only behind it.
 pub(crate) fn has_name(store: &[u8], i: usize, name: AnswerName) -> bool
-    requires { ⌜ i < 4294967296 ⌝ }
+    requires { ⌜ 12 + 8 * i ≤ length (now store) ⌝ }
     ensures { λ r. ⌜ r ≡ sameAnswer (nameAt narrow i (now (store .entry))) name ⌝ }
 {
     if entry_day(store, i) != name.day {

@@ -3,13 +3,16 @@ use crate::HeldAnswer;
 use catalog::AnswerName;
 use octets::Place;
 use octets::numbers::NOT_HELD;
+use octets::numbers::STORE_BROKEN;
 ghost use mathlib.Core.Path.{_≡_};
-ghost use Prim.Native.Nat.{_<_};
-ghost use Rattle.store.specs.Layout.{narrow};
+ghost use Prim.Native.Nat.{_<_, _≤_};
+ghost use lib.ListN.{length};
+ghost use Rattle.store.specs.Layout.{narrow, streamStart};
 ghost use Rattle.store.specs.Read.{position, findPlace, lookupNumber, lookupPlace, lookupPart, streamPlace, streamPart, heldAnswer};
 
 // Which answer has this name, from 0; the count of answers where none has.
 pub(crate) fn position(store: &[u8], name: AnswerName) -> usize
+    requires { ⌜ streamStart narrow (now store) ≤ length (now store) ⌝ }
     ensures { λ r. ⌜ (r ≡ position narrow name (now (store .entry))) × (r < 4294967296) ⌝ }
 {
     let n = crate::layout::answers(store);
@@ -23,10 +26,18 @@ pub(crate) fn position(store: &[u8], name: AnswerName) -> usize
     i
 }
 
-// Where the answer with this name lies in a store that was checked before: 6 where it is not held. Of other bytes it only tells what they say.
+// Where the answer with this name lies in a store that was checked before: 6 where it is not held.
+// Of a store that was not, 5 where the buffer ends before what the header says; else it tells what the bytes say.
 pub fn find(store: &[u8], name: AnswerName) -> Place
     ensures { λ r. ⌜ r ≡ findPlace narrow name (now (store .entry)) ⌝ }
 {
+    if !crate::check::header_fits(store) {
+        return Place {
+            number: STORE_BROKEN,
+            start: 0,
+            len: 0,
+        };
+    }
     let i = position(store, name);
     if crate::layout::answers(store) <= i {
         return Place {

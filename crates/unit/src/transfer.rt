@@ -14,11 +14,9 @@ use split::AckCode;
 use split::SubMessage;
 ghost use mathlib.Core.Path.{_≡_};
 ghost use mathlib.Core.Bool.{cond};
-ghost use mathlib.Core.List.{[], _∷_};
 ghost use Prim.Native.Nat.{_+_, _-_, _≤_};
 ghost use lib.Dec.{leb};
 ghost use Rattle.octets.specs.Order.{unless};
-ghost use Rattle.octets.specs.BigEndian.{numberOf};
 ghost use Rattle.catalog.specs.Table.{isActivities};
 ghost use Rattle.split.specs.Split.{countOf};
 ghost use Rattle.split.specs.Codes.{sub};
@@ -126,12 +124,6 @@ fn on_sending(phase: Phase, sent: Place, code: AckCode) -> Reaction
     }
 }
 
-fn code_of(high: u8, low: u8) -> AckCode
-    ensures { λ r. ⌜ r .0 ≡ numberOf (high ∷ low ∷ []) ⌝ }
-{
-    AckCode((high as u16) * 256 + (low as u16))
-}
-
 // Acknowledge: 83 76 and a code. `sent` is the place of the answer that is being sent.
 pub(crate) fn on_acknowledge(phase: Phase, sent: Place, data: &[u8]) -> Reaction
     requires { ⌜ sent .len ≤ 60000 ⌝ }
@@ -143,5 +135,9 @@ pub(crate) fn on_acknowledge(phase: Phase, sent: Place, data: &[u8]) -> Reaction
     if data[1] != 0x76 {
         return Reaction::Negative(ACKNOWLEDGE, OUT_OF_RANGE);
     }
-    on_sending(phase, sent, code_of(data[2], data[3]))
+    on_sending(
+        phase,
+        sent,
+        AckCode(octets::big_endian::two(data[2], data[3])),
+    )
 }
