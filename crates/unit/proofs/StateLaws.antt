@@ -82,6 +82,10 @@ module _ (s : List ℕ) (phase : Phase) where
   unfolding placeSent
   sent-found name last place e z q = rw e (place-checked s name 0 (sym z) place refl q)
 
+  -- where nothing is being sent
+  pub sent-none : (place : Place) (p : Phase) → phase ≡ p → place ≡ placeSent s p → place ≡ placeSent s phase
+  sent-none place p e q = rw e q
+
   pub sent-most : (place : Place) → place ≡ placeSent s phase → place .len ≤ 60000
   unfolding placeSent
   sent-most place e = rw e (go phase)
