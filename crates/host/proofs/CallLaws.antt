@@ -19,15 +19,15 @@ use Rattle.store.specs.Check.{storeNumber}
 use Rattle.unit.specs.declared.UnitState.{UnitState}
 use Rattle.unit.specs.declared.UnitReply.{UnitReply}
 use Rattle.unit.specs.State as unit-state
-use Rattle.unit.specs.Call.{unitNumber, unitResult}
+use Rattle.unit.specs.Call.{unitNumber, unitResult, unitOut}
 use Rattle.tool.specs.declared.Request.{Request}
 use Rattle.tool.specs.declared.Meaning.{Meaning}
 use Rattle.tool.specs.declared.ToolState.{ToolState}
 use Rattle.tool.specs.declared.ToolStep.{ToolStep}
 use Rattle.tool.specs.State as tool-state
-use Rattle.tool.specs.Call.{requestNumber, beginNumber, beginResult, beginOut, eventNumber, eventResult}
+use Rattle.tool.specs.Call.{requestNumber, beginNumber, beginResult, beginOut, eventNumber, eventResult, arrivalResult, arrivalRoom, arrivalOut, waitResult, waitOut}
 use Rattle.host.specs.Packed.{packedUnit, isUnit, noUnit, unpackedUnit, requestFrom, packedTool, isTool, noTool, unpackedTool}
-use Rattle.host.specs.Calls.{unitFreshNumber, unitFreshState, unitHanded, unitKept, toolFreshNumber, toolFreshState, toolHanded, toolKept, toolBegin, toolBeginOut}
+use Rattle.host.specs.Calls.{unitFreshNumber, unitFreshState, unitHanded, unitKept, unitStep, unitStepReply, toolFreshNumber, toolFreshState, toolHanded, toolKept, toolBegin, toolBeginOut, toolArrival, toolArrivalRoom, toolArrivalOut, toolWait, toolWaitOut}
 use Rattle.host.proofs.UnitLaws.{length-unit, unit-none, unit-size}
 use Rattle.host.proofs.ToolLaws.{length-tool, tool-none, tool-size}
 
@@ -72,6 +72,18 @@ module _ (step : UnitReply) where
   pub unit-accepted : (b b′ : List ℕ) → (step .number ≡ 0 → length b ≡ 11) → step .number ≡ 0 → b′ ≡ copied (packedUnit (step .state)) b → b′ ≡ unitKept step b
   unfolding unitKept
   unit-accepted b b′ l n e = kept-accepted (step .number) (packedUnit (step .state)) b b′ n (l n ∙ sym (length-unit (step .state))) e
+
+-- a step on the state u that the bytes are
+module _ (b : List ℕ) (u : UnitState) (e : u ≡ unpackedUnit b) (store f : List ℕ) where
+  module _ (step : UnitReply) (room : ℕ) (q : step ≡ unitResult lab store room u f) where
+    pub step-handed : (w : Written) → w ≡ unitHanded step → w ≡ unitHanded (unitStep b store room f)
+    step-handed w k = rw (← e, ← q) k
+
+    pub step-kept : (b′ : List ℕ) → b′ ≡ unitKept step b → b′ ≡ unitKept (unitStep b store room f) b
+    step-kept b′ k = rw (← e, ← q) k
+
+  pub step-reply : (reply reply′ : List ℕ) → reply′ ≡ unitOut lab store u f reply → reply′ ≡ unitStepReply b store f reply
+  step-reply reply reply′ k = rw (← e) k
 
 -- a fresh unit, from the tests of the code
 module _ (kind : ℕ) (b : List ℕ) where
@@ -135,6 +147,32 @@ module _ (step : ToolStep) where
   pub tool-accepts : (b b′ : List ℕ) → (step .number ≡ 0 → length b ≡ 15) → step .number ≡ 0 → b′ ≡ copied (packedTool (step .state)) b → b′ ≡ toolKept step b
   unfolding toolKept
   tool-accepts b b′ l n e = kept-accepted (step .number) (packedTool (step .state)) b b′ n (l n ∙ sym (length-tool (step .state))) e
+
+-- an event on the state t that the bytes are
+module _ (b : List ℕ) (t : ToolState) (e : t ≡ unpackedTool b) (step : ToolStep) where
+  module _ (f : List ℕ) (room out : ℕ) (q : step ≡ arrivalResult lab t f room out) where
+    pub arrival-handed : (w : Written) → w ≡ toolHanded step → w ≡ toolHanded (toolArrival b f room out)
+    arrival-handed w k = rw (← e, ← q) k
+
+    pub arrival-kept : (b′ : List ℕ) → b′ ≡ toolKept step b → b′ ≡ toolKept (toolArrival b f room out) b
+    arrival-kept b′ k = rw (← e, ← q) k
+
+  module _ (room out : ℕ) (q : step ≡ waitResult lab t room out) where
+    pub wait-handed : (w : Written) → w ≡ toolHanded step → w ≡ toolHanded (toolWait b room out)
+    wait-handed w k = rw (← e, ← q) k
+
+    pub wait-kept : (b′ : List ℕ) → b′ ≡ toolKept step b → b′ ≡ toolKept (toolWait b room out) b
+    wait-kept b′ k = rw (← e, ← q) k
+
+module _ (b : List ℕ) (t : ToolState) (e : t ≡ unpackedTool b) where
+  pub arrival-room : (f : List ℕ) (out : ℕ) (room room′ : List ℕ) → room′ ≡ arrivalRoom lab t f out room → room′ ≡ toolArrivalRoom b f out room
+  arrival-room f out room room′ k = rw (← e) k
+
+  pub arrival-out : (f : List ℕ) (room : ℕ) (out out′ : List ℕ) → out′ ≡ arrivalOut lab t f room out → out′ ≡ toolArrivalOut b f room out
+  arrival-out f room out out′ k = rw (← e) k
+
+  pub wait-out : (room : ℕ) (out out′ : List ℕ) → out′ ≡ waitOut lab t room out → out′ ≡ toolWaitOut b room out
+  wait-out room out out′ k = rw (← e) k
 
 -- a begin, from the test of its request
 module _ (b : List ℕ) (request : ℕ) (name : AnswerName) where
