@@ -2,8 +2,10 @@
 use Prim.Native.Nat.{ℕ}
 use mathlib.Core.Path.{_≡_, sym, _∙_}
 use mathlib.Core.Bool.{false}
+use mathlib.Core.List.{List}
 use lib.Dec.{eqb}
 use borrow.Author.Tests.{ne-eqb}
+use Rattle.octets.specs.Buffer.{partAt}
 use Rattle.octets.specs.Numbers.{changedBy, writtenBy, placeBy, countedBy}
 use Rattle.octets.specs.declared.Written.{Written}
 use Rattle.octets.specs.declared.Place.{Place}
@@ -44,3 +46,7 @@ zero-by r number e n = sym n ∙ e
 
 -- `search (needs, calls)` for the returns of a call that tests its number
 pub ruleset calls = (written-is, place-is, counted-is, kept-by, changed-by, zero-by)
+
+-- the part at the place that a call gave
+pub part-of : (place place′ : Place) (s r : List ℕ) → place ≡ place′ → r ≡ partAt (place .start) (place .len) s → r ≡ partAt (place′ .start) (place′ .len) s
+part-of place place′ s r e q = rw (← e) q

@@ -116,6 +116,11 @@ taken-fit Last false e = absurd (let z : _≡_ {A = ℕ} 0 1 = cc in omega arith
 taken-fit Above f e = absurd (let z : _≡_ {A = ℕ} 0 1 = cc in omega arith)
 taken-fit Other f e = absurd (let z : _≡_ {A = ℕ} 0 1 = cc in omega arith)
 
+-- what a frame's data means in a transfer, from what it was received as, its new length and whether that fits
+pub transfer-is : (room : ℕ) (t : ToolState) (d : List ℕ) (x : Received) (n : ℕ) (f : Bool) (m : Meaning) → x ≡ receivedBy t d → n ≡ length (newBytes t x d) → f ≡ fits room t n → m ≡ meaningOf x f → m ≡ transferMeaning room t d
+unfolding transferMeaning
+transfer-is room t d x n f m e p q k = rw (← e, ← p, ← q) k
+
 taken-tests : (g r f s w : Bool) (code : ℕ) (m : Meaning) → takes (cond g (cond r (cond w Ignored (RefusedBy code)) (cond f m (cond s Confirmed Ignored))) FailedWait) ≡ true → (f ≡ true) × (takes m ≡ true)
 unfolding takes
 taken-tests true false true s w code m e = (refl, e)

@@ -25,7 +25,6 @@ use Rattle.store.specs.Check.{storeNumber}
 use Rattle.store.specs.Read.{findPlace}
 use Rattle.store.proofs.ReadLaws.{place-checked}
 use Rattle.unit.specs.declared.Phase.{Phase}
-use Rattle.unit.specs.declared.Phase.the-variants.{Sending}
 use Rattle.unit.specs.declared.Reaction.{Reaction}
 use Rattle.unit.specs.declared.Reaction.the-variants.{AnswerSent, AnswerStopped, Negative}
 use Rattle.unit.specs.State.{isGranted}
@@ -135,9 +134,8 @@ module _ (name : AnswerName) (last : ℕ) (place : Place) (n : ℕ) (count : n �
   next-such h = rw (← count, le-leb (last + 1) n h)
 
 -- a code is heard by the answer that is being sent
-pub sending-code : (phase : Phase) (name : AnswerName) (last : SubMessage) (place : Place) (r : Reaction) (c : ℕ) → phase ≡ Sending name last → r ≡ onCode name last place c → r ≡ onSendingAt phase place c
-unfolding onSendingAt
-sending-code phase name last place r c e q = rw e q
+pub sending-is : (phase p : Phase) (place : Place) (r : Reaction) (c : ℕ) → phase ≡ p → r ≡ onSendingAt p place c → r ≡ onSendingAt phase place c
+sending-is phase p place r c e q = rw e q
 
 -- the code of an acknowledgement stands in its third and fourth byte
 pub code-read : (phase : Phase) (place : Place) (d : List ℕ) (r : Reaction) (c : ℕ) → length d ≡ 4 → c ≡ numberOf (getD d 2 0 ∷ getD d 3 0 ∷ []) → r ≡ onSendingAt phase place c → r ≡ onSendingAt phase place (numberAt 2 2 d)

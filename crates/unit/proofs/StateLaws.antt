@@ -1,6 +1,6 @@
 -- The state: sub messages of the answer at a place, and the answer that is being sent.
 use Prim.Native.Nat.{ℕ, _-_, _<_, _≤_}
-use mathlib.Core.Bool.{Bool, true, false}
+use mathlib.Core.Bool.{Bool, true, false, _&&_}
 use mathlib.Core.List.{List}
 use mathlib.Core.Path.{_≡_, refl, sym, ap, _∙_}
 use native.Mathlib.Omega.{arith}
@@ -75,6 +75,15 @@ sendable-says place k e =
       first = leb-true _ _ (and-left (leb 1 (k .0)) _ q);
       last = leb-true _ _ (and-right (leb 1 (k .0)) _ q);
     }
+
+-- possible, from the answer about the phase
+pub phase-is : (phase p : Phase) (place : Place) (r : Bool) → phase ≡ p → r ≡ phasePossibleAt p place → r ≡ phasePossibleAt phase place
+phase-is phase p place r e q = rw e q
+
+pub possible-is : (u : UnitState) (place : Place) (r : Bool) → r ≡ phasePossibleAt (u .phase) place
+    → (ltb (u .kind) 3 && ((leb 1 (u .rate) && leb (u .rate) 5) && (leb (u .pending) 5 && r))) ≡ possibleAt u place
+unfolding possibleAt
+possible-is u place r e = rw e
 
 -- The place of the answer that is being sent; the store was checked before
 module _ (s : List ℕ) (phase : Phase) where
