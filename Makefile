@@ -28,11 +28,12 @@ bench-count: $(BUILT)/bench
 programs: $(PROGRAMS:%=$(BUILT)/%)
 tests: $(TESTS:%=$(BUILT)/%)
 
-# rt proves what has changed since it was last proved
+# rt proves what has changed since it was last proved; the crates below host are proved beside each other
 archive:
 	@scripts/need rt gcc
 	@mkdir -p $(BUILT)
-	@rt staticlib host >$(BUILT)/archive.log 2>&1 || { cat $(BUILT)/archive.log; exit 1; }
+	@[ -e $(ARCHIVE) ] || echo "proving the library: this takes some minutes the first time"
+	@{ rt check unit tool records && rt staticlib host; } >$(BUILT)/archive.log 2>&1 || { cat $(BUILT)/archive.log; exit 1; }
 
 $(ARCHIVE): archive
 
