@@ -6,7 +6,9 @@ CFLAGS := -std=c11 -O2 -g -Wall -Wextra -Werror
 CHECKED := -fsanitize=address,undefined -fno-sanitize-recover=undefined
 BUILT := target/host
 ARCHIVE := target/staticlib/libhost.a
+SOURCES := crates.txt $(shell find crates -name '*.rt' -o -name '*.antt')
 REFERENCE := $(wildcard host/tests/reference/*.c)
+HEADERS := $(wildcard host/*/*.h host/tests/reference/*.h)
 INCLUDES := -Ihost/include -Ihost/tests/reference
 PROGRAMS := bench_unit download sample_store
 TESTS := differential download_test
@@ -28,26 +30,26 @@ bench-count: $(BUILT)/bench
 programs: $(PROGRAMS:%=$(BUILT)/%)
 tests: $(TESTS:%=$(BUILT)/%)
 
-# rt proves what has changed since it was last proved; the crates below host are proved beside each other
-archive:
+archive: $(ARCHIVE)
+
+# proved anew where a file of a crate changed; the crates below host are proved beside each other
+$(ARCHIVE): $(SOURCES)
 	@scripts/need rt gcc
 	@mkdir -p $(BUILT)
-	@[ -e $(ARCHIVE) ] || echo "proving the library: this takes some minutes the first time"
+	@[ -e target/rlib/tool.rlib ] || echo "proving the library: this takes some minutes the first time"
 	@{ rt check unit tool records && rt staticlib host; } >$(BUILT)/archive.log 2>&1 || { cat $(BUILT)/archive.log; exit 1; }
 
-$(ARCHIVE): archive
+$(BUILT)/bench_unit $(BUILT)/download: $(BUILT)/%: host/demo/%.c host/demo/line.c host/demo/options.c host/demo/messages.c $(ARCHIVE) $(HEADERS)
+	@gcc $(CFLAGS) $(INCLUDES) $(filter-out %.h,$^) -o $@
 
-$(BUILT)/bench_unit $(BUILT)/download: $(BUILT)/%: host/demo/%.c host/demo/line.c host/demo/options.c host/demo/messages.c $(ARCHIVE)
-	@gcc $(CFLAGS) $(INCLUDES) $^ -o $@
+$(BUILT)/sample_store: host/demo/sample_store.c host/demo/messages.c $(ARCHIVE) $(HEADERS)
+	@gcc $(CFLAGS) $(INCLUDES) $(filter-out %.h,$^) -o $@
 
-$(BUILT)/sample_store: host/demo/sample_store.c host/demo/messages.c $(ARCHIVE)
-	@gcc $(CFLAGS) $(INCLUDES) $^ -o $@
+$(BUILT)/differential: host/tests/differential.c host/tests/support.c $(REFERENCE) $(ARCHIVE) $(HEADERS)
+	@gcc $(CFLAGS) $(CHECKED) $(INCLUDES) $(filter-out %.h,$^) -o $@
 
-$(BUILT)/differential: host/tests/differential.c host/tests/support.c $(REFERENCE) $(ARCHIVE)
-	@gcc $(CFLAGS) $(CHECKED) $(INCLUDES) $^ -o $@
+$(BUILT)/download_test: host/tests/download.c host/tests/support.c $(REFERENCE) $(ARCHIVE) $(HEADERS)
+	@gcc $(CFLAGS) $(CHECKED) $(INCLUDES) $(filter-out %.h,$^) -o $@
 
-$(BUILT)/download_test: host/tests/download.c host/tests/support.c $(REFERENCE) $(ARCHIVE)
-	@gcc $(CFLAGS) $(CHECKED) $(INCLUDES) $^ -o $@
-
-$(BUILT)/bench: host/bench/bench.c $(REFERENCE) $(ARCHIVE)
-	@gcc $(CFLAGS) $(INCLUDES) $^ -o $@
+$(BUILT)/bench: host/bench/bench.c $(REFERENCE) $(ARCHIVE) $(HEADERS)
+	@gcc $(CFLAGS) $(INCLUDES) $(filter-out %.h,$^) -o $@
