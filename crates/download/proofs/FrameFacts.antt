@@ -8,7 +8,7 @@ use native.Mathlib.Numerals.{add-one}
 use lib.Dec.{eqb, ltb}
 use lib.ListN.{length, take, drop}
 use lib.Seq.{take-add, take-all, length-take-le}
-use borrow.Author.Tests.{ltb-true, ltb-false}
+use borrow.Author.Tests.{ltb-true, ltb-false, eqb-true, eqb-false}
 use Rattle.octets.proofs.BufferLaws as buffers
 use Rattle.octets.specs.Buffer.{sameBytes}
 use Rattle.octets.specs.BigEndian.{bytesOf, numberAt}
@@ -129,6 +129,23 @@ module _ (g : Premises) where
       ap (heldWith g) (count-one (length (answerData g)) (ltb-false _ _ e))
       ∙ ap (λ (b : Bool). 0x76 ∷ g .name .trep ∷ cond b (take 251 (drop ((1 - 1) * 251) (answerData g))) (answerData g)) e
       ∙ sym shape)
+
+  -- it is the front of the answer
+  front-some : (p : ℕ) → p < countOf (length (answerData g)) → heldWith g p ≡ take (length (heldWith g p)) (g .answer)
+  front-some zero h = refl
+  front-some (suc p) h =
+      let s = splits (omega arith) in
+      let d = data-is s (suc p) in
+      let n : length (dataUpTo g (suc p)) ≡ suc p * 251 = omega (arith, held-length p h) in
+      rw (shape, n) (ap (λ (l : List ℕ). 0x76 ∷ g .name .trep ∷ l) d)
+
+  pub held-front : (p : ℕ) → p ≤ countOf (length (answerData g)) → heldWith g p ≡ take (length (heldWith g p)) (g .answer)
+  held-front p h =
+      byTest (eqb p (countOf (length (answerData g))))
+      (λ e.
+      let a : heldWith g p ≡ g .answer = ap (heldWith g) (eqb-true p (countOf (length (answerData g))) e) ∙ held-all in
+      rw a (sym (take-all (length (g .answer)) (g .answer) (omega arith))))
+      (λ e. front-some p (omega (arith, eqb-false p (countOf (length (answerData g))) e)))
 
   -- what is held is never longer than the answer
   pub held-within : (p : ℕ) → p < countOf (length (answerData g)) → length (heldWith g p) ≤ length (g .answer)

@@ -103,29 +103,29 @@ module _ (a : Addresses) (g : Premises) where
   record ToolAt (r : Run (cableEnds a)) : Type 0 where
     outcome : r .system .tool .state .outcome ≡ outcomeOf (r .book .outcome)
     room : InRoom (r .system .tool) (r .book .taken)
-    sendings : (r .book .outcome ≡ books.done → ⊥) → r .putOutBefore + r .system .tool .state .sendings ≡ r .system .putOut
+    sendings : r .putOutBefore + r .system .tool .state .sendings ≡ r .system .putOut
 
-  tool-at : (r : Run (cableEnds a)) (o : books.Outcome) → r .book .outcome ≡ o → laws.ToolIs (cableEnds a) (transfer a g) (facts a g) (r .system .tool) (r .book .taken) (r .book .failed) o
+  tool-at : (r : Run (cableEnds a)) (o : books.Outcome) → r .book .outcome ≡ o → laws.ToolIs (cableEnds a) (transfer a g) (facts a g) (r .system .tool) (r .book .taken) (r .book .failed) (r .system .putOut) (r .putOutBefore) o
       → AfterAllowed (cableEnds a) (transfer a g) r → ToolAt r
   unfolding facts
   tool-at r books.waiting e t w =
       record {
         outcome = rw (t, e);
         room = in-room (r .system .tool) (r .book .taken) (rw t) (rw t);
-        sendings = λ z. rw t (sym (w .sentWaiting e));
+        sendings = rw t (sym (w .sentWaiting e));
       }
   tool-at r books.done e t w =
       let q : r .book .taken ≡ countOf (length (answerData g)) = w .doneAtQ .0 e in
       record {
         outcome = rw (t .1, e);
         room = in-room (r .system .tool) (r .book .taken) (rw (t .1, q)) (rw (t .1, q));
-        sendings = λ z. absurd (z e);
+        sendings = rw (t .1) (sym (t .2));
       }
   tool-at r books.noAnswer e t w =
       record {
         outcome = rw (t, e);
         room = in-room (r .system .tool) (r .book .taken) (rw t) (rw t);
-        sendings = λ z. rw t (sym (w .sentNoAnswer e));
+        sendings = rw t (sym (w .sentNoAnswer e));
       }
 
   agrees-at : (r : Run (cableEnds a)) → ToolAt r → AfterAllowed (cableEnds a) (transfer a g) r → Agrees a g r
@@ -137,11 +137,12 @@ module _ (a : Addresses) (g : Premises) where
         heldLength = t .room .heldLength;
         held = t .room .held;
         behind = t .room .behind;
+        beginning = t .room .held ∙ frames.held-front g (r .book .taken) (w .takenAtMost) ∙ ap (λ (n : ℕ). take n (g .answer)) (sym (t .room .heldLength));
         doneAtQ = ((λ z. w .doneAtQ .0 (d z)), (λ z. t .outcome ∙ done-both o .1 (w .doneAtQ .1 z)));
         whole = λ z. t .room .held ∙ ap (heldWith g) (w .doneAtQ .0 (d z)) ∙ frames.held-all g;
         noAnswerAtThree = ((λ z. w .noAnswerAtThree .0 (no-answer-both o .0 (sym (t .outcome) ∙ z))), (λ z. t .outcome ∙ no-answer-both o .1 (w .noAnswerAtThree .1 z)));
         putOutAtMost = w .putOutAtMost;
-        sendings = λ z. t .sendings (λ e. z (t .outcome ∙ done-both o .1 e));
+        sendings = t .sendings;
       }
 
   clean-at : (r : Run (cableEnds a)) → Agrees a g r → AfterClean (cableEnds a) (transfer a g) r → AgreesClean a g r

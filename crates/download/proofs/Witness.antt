@@ -151,7 +151,7 @@ clean-run : after clean
         toolArrivals = 3;
       };
       book = record { taken = 3; failed = 0; outcome = done };
-      putOutBefore = 3;
+      putOutBefore = 2;
     }
 unfolding calls
 clean-run = refl
@@ -198,7 +198,7 @@ rough-run : after rough
         toolArrivals = 6;
       };
       book = record { taken = 3; failed = 0; outcome = done };
-      putOutBefore = 7;
+      putOutBefore = 6;
     }
 unfolding calls
 rough-run = refl

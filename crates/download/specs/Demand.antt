@@ -123,6 +123,8 @@ module _ (a : Addresses) (given : Premises) where
     pub heldLength : tool r .held ≡ length (heldWith given (r .book .taken))
     pub held : heldBytes r ≡ heldWith given (r .book .taken)
     pub behind : drop (tool r .held) (r .system .tool .room) ≡ drop (tool r .held) (given .room)
+    -- so it holds a beginning of the answer: its front, of the length held
+    pub beginning : heldBytes r ≡ take (tool r .held) (given .answer)
     -- "p = q is done": exactly then, and the tool holds the whole answer
     pub doneAtQ : (tool r .outcome ≡ Done) ↔ (r .book .taken ≡ transfer .q)
     pub whole : tool r .outcome ≡ Done → heldBytes r ≡ given .answer
@@ -130,8 +132,10 @@ module _ (a : Addresses) (given : Premises) where
     pub noAnswerAtThree : (tool r .outcome ≡ NoAnswer) ↔ (r .book .failed ≡ 3)
     -- it "has put out at most 3q frames", its begin's too
     pub putOutAtMost : r .system .putOut ≤ 3 * transfer .q
-    -- "the count equals the frames put out since the last step forward", while it waits and after "no answer"
-    pub sendings : (tool r .outcome ≡ Done → ⊥) → r .putOutBefore + tool r .sendings ≡ r .system .putOut
+    -- "the count equals the frames put out since the last step forward". Done, the state keeps the count of its last wait ("An
+    -- ended state keeps all as at its last wait but outcome and held length"): the frames put out since the step forward with
+    -- which that wait began
+    pub sendings : r .putOutBefore + tool r .sendings ≡ r .system .putOut
 
   -- "On a clean line without early waits, done comes at the q-th arrival at the tool, the line never empty before"
   pub record AgreesClean (r : Run (cableEnds a)) : Type 0 where

@@ -148,7 +148,7 @@ clean-run : after clean
     ≡ record {
       system = record { toUnit = []; toTool = []; unit = 3; tool = endedDone 0; putOut = 3; unitArrivals = 3; toolArrivals = 3 };
       book = record { taken = 3; failed = 0; outcome = done };
-      putOutBefore = 3;
+      putOutBefore = 2;
     }
 unfolding clean
 clean-run = refl

@@ -9,7 +9,7 @@ use lib.Dec.{eqb}
 use borrow.Author.Tests.{eq-eqb, ne-eqb, eqb-true, eqb-false}
 use Rattle.line.specs.Line.{Result, silent, sends, Ends, End, unitEnd, toolEnd, System, unitCalled, toolCalled, unitArrives, toolArrives, behindBegin, step}
 use Rattle.line.specs.Line.{Change, lineChanged, Event, arrivesAtUnit, arrivesAtTool, waitEnds, lineChanges, beginRefused}
-use Rattle.line.specs.Book.{Transfer, Outcome, waiting, done, noAnswer, Book, newBook, failedWait, whileWaiting, fed, Run, next, run, start}
+use Rattle.line.specs.Book.{Transfer, Outcome, waiting, done, noAnswer, Book, newBook, failedWait, whileWaiting, waitsAnew, fed, Run, next, run, start}
 use Rattle.line.specs.Premises.{Spoils, Allowed, AllAllowed}
 use Rattle.line.proofs.Cases.{byTest}
 use Rattle.line.proofs.Facts.{Facts}
@@ -27,23 +27,23 @@ bookAt p (waits f) = record { taken = p; failed = f; outcome = waiting }
 bookAt p (endedDone f) = record { taken = suc p; failed = 0; outcome = done }
 bookAt p endedNoAnswer = record { taken = p; failed = 3; outcome = noAnswer }
 
--- the frames put out since the last step forward
+-- the frames put out since the step forward with which the last wait began
 abbrev pub sendings : Stage → ℕ
 sendings (waits f) = suc f
-sendings (endedDone f) = 0
+sendings (endedDone f) = suc f
 sendings endedNoAnswer = 3
 
 -- what is known at a stage
 abbrev pub Reached : (q p : ℕ) → Stage → Type 0
 Reached q p (waits f) = f < 3
-Reached q p (endedDone f) = suc p ≡ q
+Reached q p (endedDone f) = (suc p ≡ q) × (f < 3)
 Reached q p endedNoAnswer = Unit {0}
 
--- The counts: before the last step forward at most three frames were put out for each frame taken.
+-- The counts: before the last wait at most three frames were put out for each frame taken.
 pub record Counts (q p : ℕ) (stage : Stage) (putOut before : ℕ) : Type 0 where
   pub reached : Reached q p stage
   pub sent : putOut ≡ before + sendings stage
-  pub earlier : before ≤ 3 * bookAt p stage .taken
+  pub earlier : before ≤ 3 * p
 
 itself : (n : ℕ) → eqb n n ≡ true
 itself n = eq-eqb n n refl
@@ -88,7 +88,7 @@ module _ (E : Ends) (T : Transfer E) (facts : Facts E T) where
 
   -- What is to be shown of an event that takes the book from b to c and the system to s; m frames were put out before it.
   abbrev Preserved : (b : Book) (before m : ℕ) → System E → Book → Type 0
-  Preserved b before m s c = Holds s c (cond (eqb (c .taken) (b .taken)) before m)
+  Preserved b before m s c = Holds s c (cond (waitsAnew b c) m before)
 
   -- the book takes no notice of the event
   unnoticed : (b : Book) (m : ℕ) {before : ℕ} {s : System E} → Holds s b before → Preserved b before m s (whileWaiting (b .outcome) b b)
@@ -153,7 +153,7 @@ module _ (E : Ends) (T : Transfer E) (facts : Facts E T) where
         byTest (eqb (suc p) q)
         (λ e.
         let t : suc p ≡ q = eqb-true (suc p) q e in
-        let counts : Counts q p (endedDone f) (s .putOut) (s .putOut) = record { reached = t; sent = omega arith; earlier = omega arith } in
+        let counts : Counts q p (endedDone f) (s .putOut) before = record { reached = (t, k .counts .reached); sent = k .counts .sent; earlier = k .counts .earlier } in
         rw (facts .sameItself (suc p), e, ne-eqb (suc p) p (λ z. omega arith), k .tool, facts .endsDone d p f o (k .counts .reached) t)
         (rw (append-nil (s .toUnit), add-zero (s .putOut))
         (holds {stage = endedDone f} (record { unit = k .unit; tool = refl; order = otherToTool (k .order) h; counts = counts }))))

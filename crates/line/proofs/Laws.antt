@@ -1,7 +1,7 @@
 -- What holds after every list of allowed events, read from the invariant.
 use mathlib.Core.Path.{_≡_, refl}
 use mathlib.Core.List.{List}
-use Prim.Native.Nat.{ℕ, suc}
+use Prim.Native.Nat.{ℕ, suc, _+_}
 use native.Mathlib.Omega.{arith}
 use Rattle.line.specs.Line.{Ends, unitEnd, System, Event}
 use Rattle.line.specs.Book.{Transfer, Outcome, waiting, done, noAnswer, Book, Run, run, start}
@@ -10,21 +10,22 @@ use Rattle.line.specs.Claims.{Within, Every, AfterAllowed}
 use Rattle.line.proofs.Cases.{never}
 use Rattle.line.proofs.Facts.{Facts}
 use Rattle.line.proofs.Queue.{every}
-use Rattle.line.proofs.Invariant.{Stage, waits, endedDone, endedNoAnswer, bookAt, toolAt, At, Invariant, always}
+use Rattle.line.proofs.Invariant.{Stage, waits, endedDone, endedNoAnswer, bookAt, sendings, toolAt, At, Invariant, always}
 
 module _ (E : Ends) (T : Transfer E) (facts : Facts E T) where
   open Facts facts using (request, unitAfter, waitingTool, doneTool, noAnswerTool)
 
-  -- The tool has p frames taken, f failed waits and this outcome.
-  abbrev pub ToolIs : E .ToolState → (p f : ℕ) → Outcome → Type 0
-  ToolIs t p f waiting = t ≡ waitingTool p f
-  ToolIs t p f done = (g : ℕ) × (t ≡ doneTool g)
-  ToolIs t p f noAnswer = t ≡ noAnswerTool p
+  -- The tool has p frames taken, f failed waits and this outcome. Done, it keeps those of its last wait, in which it put out
+  -- one frame more than that.
+  abbrev pub ToolIs : E .ToolState → (p f putOut before : ℕ) → Outcome → Type 0
+  ToolIs t p f putOut before waiting = t ≡ waitingTool p f
+  ToolIs t p f putOut before done = (g : ℕ) × (t ≡ doneTool g) × (putOut ≡ before + suc g)
+  ToolIs t p f putOut before noAnswer = t ≡ noAnswerTool p
 
   -- The two ends after a list of allowed events.
   pub record Agrees (r : Run E) : Type 0 where
     -- "After every list the tool waits or has ended as the book has"
-    pub tool : ToolIs (r .system .tool) (r .book .taken) (r .book .failed) (r .book .outcome)
+    pub tool : ToolIs (r .system .tool) (r .book .taken) (r .book .failed) (r .system .putOut) (r .putOutBefore) (r .book .outcome)
     -- the last number that the unit sent
     pub last : ℕ
     pub unit : r .system .unit ≡ unitAfter last
@@ -32,16 +33,16 @@ module _ (E : Ends) (T : Transfer E) (facts : Facts E T) where
     pub asked : Every (Within (T .refused unitEnd) request last (suc last)) (r .system .toUnit)
 
   -- Where the invariant holds, both ends are as the book has it.
-  toolIs : (t : E .ToolState) (p : ℕ) (stage : Stage) → t ≡ toolAt E T facts p stage
-      → ToolIs t (bookAt p stage .taken) (bookAt p stage .failed) (bookAt p stage .outcome)
-  toolIs t p (waits f) e = e
-  toolIs t p (endedDone f) e = (f, e)
-  toolIs t p endedNoAnswer e = e
+  toolIs : (t : E .ToolState) (p putOut before : ℕ) (stage : Stage) → t ≡ toolAt E T facts p stage → putOut ≡ before + sendings stage
+      → ToolIs t (bookAt p stage .taken) (bookAt p stage .failed) putOut before (bookAt p stage .outcome)
+  toolIs t p putOut before (waits f) e s = e
+  toolIs t p putOut before (endedDone f) e s = (f, e, s)
+  toolIs t p putOut before endedNoAnswer e s = e
 
   pub agreesAt : (r : Run E) → Invariant E T facts r → Agrees r
   agreesAt r i =
       record {
-        tool = rw (i .book) (toolIs (r .system .tool) (i .p) (i .stage) (i .at .tool));
+        tool = rw (i .book) (toolIs (r .system .tool) (i .p) (r .system .putOut) (r .putOutBefore) (i .stage) (i .at .tool) (i .at .counts .sent));
         last = i .n;
         unit = i .at .unit;
         asked = every (i .n) (suc (i .n)) (omega arith) (omega arith) (i .at .order .toUnit);
@@ -65,7 +66,7 @@ module _ (E : Ends) (T : Transfer E) (facts : Facts E T) where
       record {
         takenAtMost = omega arith;
         failedAtMost = omega arith;
-        doneAtQ = ((λ z. k .counts .reached), (λ z. refl));
+        doneAtQ = ((λ z. k .counts .reached .0), (λ z. refl));
         noAnswerAtThree = ((λ z. never (cc)), (λ z. absurd (omega arith)));
         sentWaiting = λ z. never (cc);
         sentNoAnswer = λ z. never (cc);

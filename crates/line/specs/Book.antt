@@ -1,5 +1,5 @@
 -- Document 01, "The line and the book", second paragraph: one transfer, its book, and the run of both over a list of events.
-use mathlib.Core.Bool.{Bool, cond}
+use mathlib.Core.Bool.{Bool, true, false, cond, not, _&&_}
 use mathlib.Core.List.{List, [], _∷_}
 use Prim.Native.Nat.{ℕ, suc}
 use lib.Dec.{eqb}
@@ -52,8 +52,18 @@ whileWaiting waiting before after = after
 whileWaiting done before after = before
 whileWaiting noAnswer before after = before
 
--- System and book after some events. putOutBefore: the frames that the tool had put out before the last step forward, so
--- that putOut less putOutBefore is the frames put out since.
+-- the transfer has not ended
+abbrev pub isWaiting : Outcome → Bool
+isWaiting waiting = true
+isWaiting done = false
+isWaiting noAnswer = false
+
+-- a step forward behind which the tool waits again: a frame is taken, and it is not the last one
+abbrev pub waitsAnew : Book → Book → Bool
+waitsAnew before after = not (eqb (after .taken) (before .taken)) && isWaiting (after .outcome)
+
+-- System and book after some events. putOutBefore: the frames that the tool had put out before the step forward with which
+-- its last wait began, so that putOut less putOutBefore is the frames put out since. At done no wait begins: it stays.
 pub record Run (E : Ends) : Type 0 where
   pub system : System E
   pub book : Book
@@ -78,14 +88,14 @@ module _ (E : Ends) (T : Transfer E) where
   abbrev pub fed : Event E → List (E .String) → Book → Book
   fed e queue b = whileWaiting (b .outcome) b (noted e queue b)
 
-  -- one event; a step forward is an event at which a frame is taken
+  -- one event
   abbrev pub next : Event E → Run E → Run E
   next e r =
       let b = fed e (r .system .toTool) (r .book) in
       record {
         system = step E e (r .system);
         book = b;
-        putOutBefore = cond (eqb (b .taken) (r .book .taken)) (r .putOutBefore) (r .system .putOut);
+        putOutBefore = cond (waitsAnew (r .book) b) (r .system .putOut) (r .putOutBefore);
       }
 
   abbrev pub run : List (Event E) → Run E → Run E
