@@ -4,8 +4,12 @@ use mathlib.Core.Bool.{Bool, cond, _&&_}
 use lib.Dec.{eqb}
 use Rattle.octets.specs.Order.{unless}
 use Rattle.octets.specs.Numbers.{done, notInTable}
-use Rattle.catalog.specs.Table.{listed, isActivities}
+use Rattle.catalog.specs.Table.{absent, listed, isActivities}
 use Rattle.catalog.specs.declared.AnswerName.{AnswerName}
+
+-- a name that no answer has: FF is no TREP
+abbrev pub noAnswer : AnswerName
+noAnswer = record { trep = absent; day = 0 }
 
 -- the first second of the day that a second falls in; days have 86,400 seconds since 1970
 unfoldable pub firstSecond : ℕ → ℕ

@@ -65,6 +65,9 @@ pub struct AnswerName {
     pub day: u32,
 }
 
+// A name that no answer has.
+pub const NO_ANSWER: AnswerName = AnswerName { trep: 0xFF, day: 0 };
+
 // The TRTP of the transfer type in this row at a kind, FF where there is none.
 pub fn trtp(row: u8, kind: u8) -> u8
     ensures { λ r. ⌜ r ≡ trtpOf row kind ⌝ }

@@ -10,7 +10,7 @@ use borrow.Author.Tests.{le-leb, lt-leb, eq-eqb, ne-eqb, eqb-true}
 use Rattle.octets.specs.BigEndian.{numberOf, bytesOf, numberAt}
 use Rattle.octets.specs.Buffer.{copied}
 use Rattle.octets.proofs.NumberLaws.{number-of-bytes}
-use Rattle.octets.proofs.Tests.{and-left, and-right}
+use Rattle.octets.proofs.Tests.{and-left, and-right, never}
 use Rattle.catalog.specs.declared.AnswerName.{AnswerName}
 use Rattle.split.specs.declared.SubMessage.{SubMessage}
 use Rattle.split.specs.Codes.{sub}
@@ -132,7 +132,7 @@ module _ (name : AnswerName) (last : SubMessage) where
       let byte : ℕ = suc (suc (suc (suc (suc n)))) in
       let e : (eqb byte 4 || (leb byte 3 && sendsNothing name last)) ≡ false =
       rw (ne-eqb byte 4 (λ q. omega arith), lt-leb byte 3 (omega arith)) in
-      absurd (let z : _≡_ {A = ℕ} 0 1 = cc in omega arith)
+      never (cc)
 
 pub unit-again : (b : List ℕ) → ((i : ℕ) → getD b i 0 < 256) → isUnit b ≡ true → packedUnit (unpackedUnit b) ≡ b
 unfolding unpackedUnit packedUnit isUnit

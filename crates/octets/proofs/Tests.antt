@@ -37,6 +37,10 @@ and-self a b p = rw p
 pub or-self : (a b : Bool) → a ≡ true → a ≡ (a || b)
 or-self a b p = rw p
 
+-- two constructors are never equal: `never (cc)` finds the two
+pub never : {A : Type 0} → _≡_ {A = ℕ} 0 1 → A
+never z = absurd (omega arith)
+
 -- both sides of a conjunction that holds, and a conjunction from both
 pub and-left : (a b : Bool) → (a && b) ≡ true → a ≡ true
 and-left true b h = sym (ap (λ (x : Bool). true) h)
@@ -44,7 +48,7 @@ and-left false b h = h
 
 pub and-right : (a b : Bool) → (a && b) ≡ true → b ≡ true
 and-right true b h = h
-and-right false b h = absurd (let z : _≡_ {A = ℕ} 0 1 = cc in omega arith)
+and-right false b h = never (cc)
 
 pub and-both : (a b : Bool) → a ≡ true → b ≡ true → (a && b) ≡ true
 and-both a b p q = rw (p, q)

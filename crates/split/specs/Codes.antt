@@ -1,5 +1,7 @@
 -- Acknowledge codes (DDP_017; document 01, The unit). Numbers and codes are both 16 bits, and each has a type of its own.
 use Prim.Native.Nat.{ℕ, _+_, _%_}
+use mathlib.Core.Bool.{Bool}
+use lib.Dec.{eqb}
 use Rattle.split.specs.declared.SubMessage.{SubMessage}
 use Rattle.split.specs.declared.AckCode.{AckCode}
 
@@ -8,6 +10,10 @@ sub k = record { 0 = k }
 
 abbrev pub code : ℕ → AckCode
 code k = record { 0 = k }
+
+-- a code is compared with codes alone
+abbrev pub sameCode : AckCode → AckCode → Bool
+sameCode a b = eqb (a .0) (b .0)
 
 -- "last sent plus 1, send the next"
 abbrev pub acknowledgeOf : SubMessage → AckCode

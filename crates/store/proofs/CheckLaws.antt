@@ -34,19 +34,22 @@ pub header-start : (s : List ℕ) → headerFits narrow s ≡ true → streamSta
 unfolding headerFits
 header-start s h = let w : storeLength narrow s ≤ length s = leb-true _ _ (and-right (leb 4 (length s)) _ h) in omega arith
 
-pub whole-header : (s : List ℕ) → storeNumber narrow s ≡ 0 → headerFits narrow s ≡ true
+whole-header : (s : List ℕ) → storeNumber narrow s ≡ 0 → headerFits narrow s ≡ true
 unfolding storeNumber
 whole-header s e = unless-is (headerFits narrow s) 5 _ 0 refl e .first
 
+pub checked-start : (s : List ℕ) → storeNumber narrow s ≡ 0 → streamStart narrow s ≤ length s
+checked-start s z = header-start s (whole-header s z)
+
 pub whole-start : (s : List ℕ) (r : ℕ) → r ≡ storeNumber narrow s → r ≡ 0 → streamStart narrow s ≤ length s
-whole-start s r e z = header-start s (whole-header s (sym e ∙ z))
+whole-start s r e z = checked-start s (sym e ∙ z)
 
 module _ (s : List ℕ) (i n : ℕ) (q : n ≡ answers narrow s) (h : i < n) where
   entry-in : streamStart narrow s ≤ length s → 12 + 8 * i ≤ length s
   entry-in l = omega arith
 
-  pub header-entry : headerFits narrow s ≡ true → 12 + 8 * i ≤ length s
-  header-entry f = entry-in (header-start s f)
+  pub checked-entry : storeNumber narrow s ≡ 0 → 12 + 8 * i ≤ length s
+  checked-entry z = entry-in (checked-start s z)
 
   pub whole-entry : (r : ℕ) → r ≡ storeNumber narrow s → r ≡ 0 → 12 + 8 * i ≤ length s
   whole-entry r e z = entry-in (whole-start s r e z)

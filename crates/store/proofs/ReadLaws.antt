@@ -10,11 +10,14 @@ use borrow.Author.Tests.{lt-ltb, le-ltb, ne-eqb}
 use Rattle.octets.specs.declared.Place.{Place}
 use Rattle.catalog.specs.Name.{sameAnswer}
 use Rattle.catalog.specs.declared.AnswerName.{AnswerName}
+use Rattle.catalog.proofs.NameLaws.{absent-unlisted}
 use Rattle.store.specs.declared.HeldAnswer.{HeldAnswer}
+use Rattle.store.specs.declared.TwoPlaces.{TwoPlaces}
 use Rattle.store.specs.Layout.{narrow, answers, streamLength, streamStart, entryLength, answerStart, nameAt}
-use Rattle.store.specs.Check.{headerFits, storeNumber}
-use Rattle.store.specs.Read.{positionFrom, position, findPlace, lookupNumber, lookupPlace, streamPlace, heldNumber, heldAnswer}
-use Rattle.store.proofs.CheckLaws.{whole-header}
+use Rattle.store.specs.Check.{storeNumber}
+use Rattle.store.specs.Read.{positionFrom, position, lookupNumber, lookupPlace, lookupBoth, streamPlace, heldNumber, heldAnswer}
+use Rattle.store.proofs.PositionLaws.{missing-position}
+use Rattle.store.proofs.StoreLaws.{unlisted-missing}
 
 -- The search, a turn at a time
 
@@ -39,20 +42,22 @@ module _ (s : List ℕ) (n i : ℕ) (name : AnswerName) (whole : positionFrom na
 
 -- A search in a checked store; i is the position, n the count
 
-pub find-broken : (s : List ℕ) (name : AnswerName) → headerFits narrow s ≡ false → _≡_ {A = Place} (record { number = 5; start = 0; len = 0 }) (findPlace narrow name s)
-unfolding findPlace
-find-broken s name f = rw f
+module _ (s : List ℕ) (name : AnswerName) (z : storeNumber narrow s ≡ 0) where
+  -- a held answer has a listed TREP, and FF is none
+  pub find-none : name .trep ≡ 0xFF → _≡_ {A = Place} (record { number = 6; start = 0; len = 0 }) (lookupPlace narrow name s)
+  unfolding lookupPlace lookupNumber
+  find-none e = rw (z, le-ltb (position narrow name s) (answers narrow s) (missing-position name s (unlisted-missing name s z (rw e absent-unlisted))))
 
-module _ (s : List ℕ) (name : AnswerName) (f : headerFits narrow s ≡ true) (i n : ℕ) (p : i ≡ position narrow name s) (q : n ≡ answers narrow s) where
-  pub find-missing : n ≤ i → _≡_ {A = Place} (record { number = 6; start = 0; len = 0 }) (findPlace narrow name s)
-  unfolding findPlace
-  find-missing h = rw (f, ← p, ← q, le-ltb i n h)
+  module _ (i n : ℕ) (p : i ≡ position narrow name s) (q : n ≡ answers narrow s) where
+    pub find-missing : n ≤ i → _≡_ {A = Place} (record { number = 6; start = 0; len = 0 }) (lookupPlace narrow name s)
+    unfolding lookupPlace lookupNumber
+    find-missing h = rw (z, ← p, ← q, le-ltb i n h)
 
-  pub find-found : (b l : ℕ) → i < n → b ≡ answerStart narrow i s → l ≡ entryLength narrow i s → _≡_ {A = Place} (record { number = 0; start = b; len = l }) (findPlace narrow name s)
-  unfolding findPlace
-  find-found b l h bs ls =
-      let t : ltb (position narrow name s) (answers narrow s) ≡ true = rw (← p, ← q) (lt-ltb i n h) in
-      rw (f, t, ← p, bs, ls)
+    pub find-found : (b l : ℕ) → i < n → b ≡ answerStart narrow i s → l ≡ entryLength narrow i s → _≡_ {A = Place} (record { number = 0; start = b; len = l }) (lookupPlace narrow name s)
+    unfolding lookupPlace lookupNumber
+    find-found b l h bs ls =
+        let t : ltb (position narrow name s) (answers narrow s) ≡ true = rw (← p, ← q) (lt-ltb i n h) in
+        rw (z, t, ← p, bs, ls)
 
 -- A lookup; r is the number of the check
 
@@ -61,13 +66,13 @@ module _ (s : List ℕ) (name : AnswerName) (r : ℕ) (e : r ≡ storeNumber nar
   unfolding lookupPlace lookupNumber
   place-broken z = rw (← e, ne-eqb r 0 z, ne-eqb r 0 z)
 
-  -- in an unbroken store a search is a lookup
-  pub place-checked : (place : Place) → r ≡ 0 → place ≡ findPlace narrow name s → place ≡ lookupPlace narrow name s
-  unfolding lookupPlace lookupNumber findPlace
-  place-checked place z q =
-      let f : headerFits narrow s ≡ true = whole-header s (sym e ∙ z) in
-      let h : storeNumber narrow s ≡ 0 = sym e ∙ z in
-      rw h (rw f at q)
+-- Two of them
+module _ (s : List ℕ) (first second : AnswerName) (r : ℕ) (e : r ≡ storeNumber narrow s) where
+  pub both-broken : (p : Place) → (r ≡ 0 → ⊥) → p ≡ record { number = r; start = 0; len = 0 } → _≡_ {A = TwoPlaces} (record { number = r; first = p; second = p }) (lookupBoth narrow first second s)
+  both-broken p z q = rw (← e, ← place-broken s first r e z, ← place-broken s second r e z, q)
+
+  pub both-found : (p q : Place) → r ≡ 0 → p ≡ lookupPlace narrow first s → q ≡ lookupPlace narrow second s → _≡_ {A = TwoPlaces} (record { number = 0; first = p; second = q }) (lookupBoth narrow first second s)
+  both-found p q z a b = rw (← e, z, a, b)
 
 pub number-of-place : (s : List ℕ) (name : AnswerName) (place : Place) → place ≡ lookupPlace narrow name s → place .number ≡ lookupNumber narrow name s
 unfolding lookupPlace

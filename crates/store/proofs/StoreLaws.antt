@@ -11,9 +11,11 @@ use lib.Dec.{eqb, ltb, leb}
 use lib.ListN.{length, getD, drop}
 use lib.Seq.{drop-cons}
 use borrow.Author.Tests.{lt-ltb, le-ltb, le-leb, eq-eqb, ne-eqb, ltb-true, ltb-false, leb-true, eqb-true, not-true}
-use Rattle.octets.proofs.Tests.{and-left, and-right, and-both}
+use Rattle.octets.proofs.Tests.{and-left, and-right, and-both, never}
 use Rattle.octets.proofs.BufferLaws.{length-part}
+use Rattle.catalog.specs.Table.{listed}
 use Rattle.catalog.specs.Name.{nameNumber}
+use Rattle.catalog.proofs.NameLaws.{allowed}
 use Rattle.catalog.specs.declared.AnswerName.{AnswerName}
 use Rattle.store.specs.Layout.{narrow, answers, streamLength, storeLength, entryOffset, entryLength, answerStart, streamOf, answerAt, nameAt}
 use Rattle.store.specs.Check.{headerFits, countsFit, placeRight, placesRight, answerRight, answersRight, namedFrom, namesDiffer, storeNumber}
@@ -147,6 +149,12 @@ held s e i h =
       begins = eqb-true _ _ (and-left (eqb (getD s (answerStart narrow i s) 0) 0x76) _ a);
       allowed = eqb-true _ _ (and-right (eqb (getD s (answerStart narrow i s) 0) 0x76) _ a);
     }
+
+-- no answer of an unbroken store has a name that the table does not list
+pub unlisted-missing : (name : AnswerName) (s : List ℕ) → storeNumber narrow s ≡ 0 → listed (name .trep) ≡ false → Missing name s
+unlisted-missing name s z u i l e =
+    let t : listed (name .trep) ≡ true = rw e at (allowed (nameAt narrow i s) (held s z i l .allowed) .0) in
+    never (cc)
 
 module _ (s : List ℕ) (zero : storeNumber narrow s ≡ 0) (i : ℕ) (below : i < answers narrow s) where
   -- it lies within the buffer

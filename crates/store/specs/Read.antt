@@ -4,14 +4,15 @@ use mathlib.Core.Bool.{cond}
 use mathlib.Core.List.{List}
 use lib.Dec.{ltb}
 use Rattle.octets.specs.Order.{unless, orElse}
-use Rattle.octets.specs.Numbers.{done, storeBroken, notHeld, changedBy, placeBy}
+use Rattle.octets.specs.Numbers.{done, notHeld, changedBy, placeBy}
 use Rattle.octets.specs.Buffer.{partAt}
 use Rattle.octets.specs.declared.Place.{Place}
 use Rattle.catalog.specs.Name.{sameAnswer}
 use Rattle.catalog.specs.declared.AnswerName.{AnswerName}
 use Rattle.store.specs.declared.HeldAnswer.{HeldAnswer}
+use Rattle.store.specs.declared.TwoPlaces.{TwoPlaces}
 use Rattle.store.specs.Layout.{Form, answers, streamStart, streamLength, entryLength, answerStart, nameAt}
-use Rattle.store.specs.Check.{headerFits, storeNumber}
+use Rattle.store.specs.Check.{storeNumber}
 
 module _ (f : Form) where
   -- the first of k entries from the i-th on with that name; past them all where there is none
@@ -26,14 +27,6 @@ module _ (f : Form) where
   abbrev pub heldNumberOf : AnswerName → List ℕ → ℕ
   heldNumberOf name s = unless (ltb (position name s) (answers f s)) notHeld done
 
-  -- finding an answer in a store that was checked before: 5 only where the buffer ends before what the header says
-  abbrev pub findNumber : AnswerName → List ℕ → ℕ
-  findNumber name s = unless (headerFits f s) storeBroken (heldNumberOf name s)
-
-  unfoldable pub findPlace : AnswerName → List ℕ → Place
-  findPlace name s =
-      placeBy (findNumber name s) (answerStart f (position name s) s) (entryLength f (position name s) s)
-
   -- "Lookup: 5, 6 (unlisted names too)"
   unfoldable pub lookupNumber : AnswerName → List ℕ → ℕ
   lookupNumber name s = orElse (storeNumber f s) (heldNumberOf name s)
@@ -42,6 +35,11 @@ module _ (f : Form) where
   unfoldable pub lookupPlace : AnswerName → List ℕ → Place
   lookupPlace name s =
       placeBy (lookupNumber name s) (answerStart f (position name s) s) (entryLength f (position name s) s)
+
+  -- two lookups for one check, with the number of the store beside them
+  abbrev pub lookupBoth : AnswerName → AnswerName → List ℕ → TwoPlaces
+  lookupBoth first second s =
+      record { number = storeNumber f s; first = lookupPlace first s; second = lookupPlace second s }
 
   unfoldable pub lookupPart : AnswerName → List ℕ → List ℕ
   lookupPart name s = partAt (lookupPlace name s .start) (lookupPlace name s .len) s

@@ -12,7 +12,7 @@ ghost use Rattle.store.specs.Layout.{narrow, answers, streamStart};
 ghost use Rattle.store.specs.Check.{headerFits, countsFit, placesRight, answerRight, answersRight, namedFrom, namesDiffer, storeNumber};
 
 // Whether the buffer holds its header, and what that says.
-pub(crate) fn header_fits(store: &[u8]) -> bool
+fn header_fits(store: &[u8]) -> bool
     ensures { λ r. ⌜ r ≡ headerFits narrow (now (store .entry)) ⌝ }
 {
     if store.len() < HEADER {

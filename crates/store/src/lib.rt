@@ -5,11 +5,19 @@ mod layout;
 pub mod read;
 
 use catalog::AnswerName;
+use octets::Place;
 
 // The most answers that a store holds, and the most bytes of its stream.
 pub const ANSWERS_MOST: usize = 64;
 
 pub const STREAM_MOST: usize = 60000;
+
+// Where two answers lie: the number of the store's check beside their places.
+pub struct TwoPlaces {
+    pub number: u8,
+    pub first: Place,
+    pub second: Place,
+}
 
 // The k-th answer that a store holds: its name and its place in the buffer, or a refusal and zeros.
 pub struct HeldAnswer {

@@ -1,14 +1,16 @@
 // Reading a store: one answer by its name, the whole stream, and the answers one by one.
 use crate::HeldAnswer;
+use crate::TwoPlaces;
+use catalog::ABSENT;
 use catalog::AnswerName;
 use octets::Place;
 use octets::numbers::NOT_HELD;
-use octets::numbers::STORE_BROKEN;
 ghost use mathlib.Core.Path.{_≡_};
 ghost use Prim.Native.Nat.{_<_, _≤_};
 ghost use lib.ListN.{length};
 ghost use Rattle.store.specs.Layout.{narrow, streamStart};
-ghost use Rattle.store.specs.Read.{position, findPlace, lookupNumber, lookupPlace, lookupPart, streamPlace, streamPart, heldAnswer};
+ghost use Rattle.store.specs.Check.{storeNumber};
+ghost use Rattle.store.specs.Read.{position, lookupNumber, lookupPlace, lookupBoth, lookupPart, streamPlace, streamPart, heldAnswer};
 
 // Which answer has this name, from 0; the count of answers where none has.
 pub(crate) fn position(store: &[u8], name: AnswerName) -> usize
@@ -26,14 +28,14 @@ pub(crate) fn position(store: &[u8], name: AnswerName) -> usize
     i
 }
 
-// Where the answer with this name lies in a store that was checked before: 6 where it is not held.
-// Of a store that was not, 5 where the buffer ends before what the header says; else it tells what the bytes say.
-pub fn find(store: &[u8], name: AnswerName) -> Place
-    ensures { λ r. ⌜ r ≡ findPlace narrow name (now (store .entry)) ⌝ }
+// Where the answer with this name lies in a store that was checked: 6 where it is not held. FF is no TREP, and nothing is looked for.
+fn find(store: &[u8], name: AnswerName) -> Place
+    requires { ⌜ storeNumber narrow (now store) ≡ 0 ⌝ }
+    ensures { λ r. ⌜ r ≡ lookupPlace narrow name (now (store .entry)) ⌝ }
 {
-    if !crate::check::header_fits(store) {
+    if name.trep == ABSENT {
         return Place {
-            number: STORE_BROKEN,
+            number: NOT_HELD,
             start: 0,
             len: 0,
         };
@@ -66,6 +68,30 @@ pub fn locate(store: &[u8], name: AnswerName) -> Place
         };
     }
     find(store, name)
+}
+
+// Where the answers with these two names lie, by one check of the store; each place is what `locate` gives.
+pub fn locate_both(store: &[u8], first: AnswerName, second: AnswerName) -> TwoPlaces
+    ensures { λ r. ⌜ r ≡ lookupBoth narrow first second (now (store .entry)) ⌝ }
+{
+    let number = crate::check::check(store);
+    if number != 0 {
+        let nowhere = Place {
+            number,
+            start: 0,
+            len: 0,
+        };
+        return TwoPlaces {
+            number,
+            first: nowhere,
+            second: nowhere,
+        };
+    }
+    TwoPlaces {
+        number: 0,
+        first: find(store, first),
+        second: find(store, second),
+    }
 }
 
 // The number of a lookup, 0 where `lookup` gives the answer.

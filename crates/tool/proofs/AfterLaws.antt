@@ -8,6 +8,7 @@ use lib.ListN.{length}
 use mir.Syntax.{w16}
 use mir.Val.{Fits}
 use borrow.Author.Tests.{le-leb, lt-leb}
+use Rattle.octets.proofs.Tests.{never}
 use Rattle.octets.specs.Buffer.{front}
 use Rattle.frame.specs.declared.Addresses.{Addresses}
 use Rattle.frame.specs.declared.End.the-variants as ends
@@ -103,4 +104,4 @@ module _ (m m′ : Meaning) where
 -- a failed wait takes nothing
 pub failed-takes : {A : Type 0} → takes FailedWait ≡ true → A
 unfolding takes
-failed-takes h = absurd (let z : _≡_ {A = ℕ} 0 1 = cc in omega arith)
+failed-takes h = never (cc)

@@ -8,7 +8,7 @@ use lib.Dec.{eqb, ltb}
 use lib.ListN.{length, getD, length-take, length-drop}
 use borrow.Author.Tests.{eq-eqb, ne-eqb, ltb-true, eqb-false}
 use Rattle.octets.specs.Buffer.{sameBytes, partAt}
-use Rattle.octets.proofs.Tests.{and-left}
+use Rattle.octets.proofs.Tests.{and-left, never}
 use Rattle.frame.specs.declared.Addresses.{Addresses}
 use Rattle.frame.specs.declared.End.the-variants as ends
 use Rattle.frame.specs.Frame.{isStart, countRight, judged, dataPlace, dataOf}
@@ -110,11 +110,11 @@ unfolding takes meaningOf
 taken-fit Whole true e = refl
 taken-fit Full true e = refl
 taken-fit Last true e = refl
-taken-fit Whole false e = absurd (let z : _≡_ {A = ℕ} 0 1 = cc in omega arith)
-taken-fit Full false e = absurd (let z : _≡_ {A = ℕ} 0 1 = cc in omega arith)
-taken-fit Last false e = absurd (let z : _≡_ {A = ℕ} 0 1 = cc in omega arith)
-taken-fit Above f e = absurd (let z : _≡_ {A = ℕ} 0 1 = cc in omega arith)
-taken-fit Other f e = absurd (let z : _≡_ {A = ℕ} 0 1 = cc in omega arith)
+taken-fit Whole false e = never (cc)
+taken-fit Full false e = never (cc)
+taken-fit Last false e = never (cc)
+taken-fit Above f e = never (cc)
+taken-fit Other f e = never (cc)
 
 -- what a frame's data means in a transfer, from what it was received as, its new length and whether that fits
 pub transfer-is : (room : ℕ) (t : ToolState) (d : List ℕ) (x : Received) (n : ℕ) (f : Bool) (m : Meaning) → x ≡ receivedBy t d → n ≡ length (newBytes t x d) → f ≡ fits room t n → m ≡ meaningOf x f → m ≡ transferMeaning room t d
@@ -124,11 +124,11 @@ transfer-is room t d x n f m e p q k = rw (← e, ← p, ← q) k
 taken-tests : (g r f s w : Bool) (code : ℕ) (m : Meaning) → takes (cond g (cond r (cond w Ignored (RefusedBy code)) (cond f m (cond s Confirmed Ignored))) FailedWait) ≡ true → (f ≡ true) × (takes m ≡ true)
 unfolding takes
 taken-tests true false true s w code m e = (refl, e)
-taken-tests true true f s true code m e = absurd (let z : _≡_ {A = ℕ} 0 1 = cc in omega arith)
-taken-tests true true f s false code m e = absurd (let z : _≡_ {A = ℕ} 0 1 = cc in omega arith)
-taken-tests true false false true w code m e = absurd (let z : _≡_ {A = ℕ} 0 1 = cc in omega arith)
-taken-tests true false false false w code m e = absurd (let z : _≡_ {A = ℕ} 0 1 = cc in omega arith)
-taken-tests false r f s w code m e = absurd (let z : _≡_ {A = ℕ} 0 1 = cc in omega arith)
+taken-tests true true f s true code m e = never (cc)
+taken-tests true true f s false code m e = never (cc)
+taken-tests true false false true w code m e = never (cc)
+taken-tests true false false false w code m e = never (cc)
+taken-tests false r f s w code m e = never (cc)
 
 pub record Taken (a : Addresses) (room : ℕ) (t : ToolState) (b : List ℕ) : Type 0 where
   pub transfer : isTransfer (t .request) ≡ true

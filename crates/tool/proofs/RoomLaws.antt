@@ -9,7 +9,7 @@ use lib.ListN.{length, take, drop, length-append, length-take}
 use borrow.Author.Tests.{le-leb, lt-leb, leb-true}
 use Rattle.octets.specs.Buffer.{put, copied}
 use Rattle.octets.proofs.BufferLaws.{lent-copy, length-put, put-put, put-none}
-use Rattle.octets.proofs.Tests.{and-left, and-right}
+use Rattle.octets.proofs.Tests.{and-left, and-right, never}
 use Rattle.split.specs.Join.{carriedBy}
 use Rattle.split.specs.declared.Received.{Received}
 use Rattle.split.specs.declared.Received.the-variants.{Whole, Full, Last, Above, Other}
@@ -125,18 +125,18 @@ unfolding takes roomAfter
 room-taken-is WholeAnswer t v o h = refl
 room-taken-is SubMessageTaken t v o h = refl
 room-taken-is LastTaken t v o h = refl
-room-taken-is Ignored t v o h = absurd (let z : _≡_ {A = ℕ} 0 1 = cc in omega arith)
-room-taken-is FailedWait t v o h = absurd (let z : _≡_ {A = ℕ} 0 1 = cc in omega arith)
-room-taken-is Confirmed t v o h = absurd (let z : _≡_ {A = ℕ} 0 1 = cc in omega arith)
-room-taken-is NoRoomForAnswer t v o h = absurd (let z : _≡_ {A = ℕ} 0 1 = cc in omega arith)
-room-taken-is NoRoomForSubMessage t v o h = absurd (let z : _≡_ {A = ℕ} 0 1 = cc in omega arith)
-room-taken-is (RefusedBy code) t v o h = absurd (let z : _≡_ {A = ℕ} 0 1 = cc in omega arith)
+room-taken-is Ignored t v o h = never (cc)
+room-taken-is FailedWait t v o h = never (cc)
+room-taken-is Confirmed t v o h = never (cc)
+room-taken-is NoRoomForAnswer t v o h = never (cc)
+room-taken-is NoRoomForSubMessage t v o h = never (cc)
+room-taken-is (RefusedBy code) t v o h = never (cc)
 
 room-kept-is : (m : Meaning) (t : ToolState) (v o : List ℕ) → takes m ≡ false → o ≡ roomAfter t m v o
 unfolding takes roomAfter
-room-kept-is WholeAnswer t v o h = absurd (let z : _≡_ {A = ℕ} 0 1 = cc in omega arith)
-room-kept-is SubMessageTaken t v o h = absurd (let z : _≡_ {A = ℕ} 0 1 = cc in omega arith)
-room-kept-is LastTaken t v o h = absurd (let z : _≡_ {A = ℕ} 0 1 = cc in omega arith)
+room-kept-is WholeAnswer t v o h = never (cc)
+room-kept-is SubMessageTaken t v o h = never (cc)
+room-kept-is LastTaken t v o h = never (cc)
 room-kept-is Ignored t v o h = refl
 room-kept-is FailedWait t v o h = refl
 room-kept-is Confirmed t v o h = refl

@@ -5,7 +5,7 @@ use mathlib.Core.Path.{_≡_, refl}
 use native.Mathlib.Omega.{arith}
 use lib.Dec.{eqb, leb}
 use borrow.Author.Tests.{le-leb, lt-leb, eq-eqb, ne-eqb, leb-true, eqb-true}
-use Rattle.octets.proofs.Tests.{and-left, and-right}
+use Rattle.octets.proofs.Tests.{and-left, and-right, never}
 use Rattle.catalog.specs.Name.{nameNumber}
 use Rattle.tool.specs.declared.ToolState.{ToolState}
 use Rattle.tool.specs.State.{isTransfer, isWaiting, heldRight, transferPossible, possible}
@@ -90,8 +90,8 @@ expected-bounds e held h m = go (eqb e 1) refl h
 
 sent-and-fits : (s f p : Bool) → (s && (not f || p)) ≡ true → f ≡ true → p ≡ true
 sent-and-fits true true p e q = e
-sent-and-fits false f p e q = absurd (let z : _≡_ {A = ℕ} 0 1 = cc in omega arith)
-sent-and-fits true false p e q = absurd (let z : _≡_ {A = ℕ} 0 1 = cc in omega arith)
+sent-and-fits false f p e q = never (cc)
+sent-and-fits true false p e q = never (cc)
 
 pub waiting-transfer : (room : ℕ) (t : ToolState) → isWaiting (t .outcome) ≡ true → possible room t ≡ true → isTransfer (t .request) ≡ true → WaitingTransfer room t
 unfolding possible transferPossible

@@ -7,10 +7,11 @@ use native.Mathlib.Omega.{arith}
 use lib.Dec.{eqb, leb}
 use lib.ListN.{length, getD}
 use borrow.Author.Tests.{lt-ltb, le-ltb, eq-eqb, ne-eqb, leb-true, eqb-true}
-use Rattle.octets.specs.Order.{unless}
+use Rattle.octets.specs.Order.{unless, orElse}
+use Rattle.octets.specs.Numbers.{changedBy}
 use Rattle.octets.specs.Buffer.{partAt, sameBytes, front}
 use Rattle.octets.specs.declared.Place.{Place}
-use Rattle.octets.proofs.OrderLaws.{Both, unless-is}
+use Rattle.octets.proofs.OrderLaws.{Both, unless-is, or-zero}
 use Rattle.octets.proofs.Tests.{and-left, and-right}
 use Rattle.frame.specs.declared.End.the-variants as ends
 use Rattle.frame.specs.Frame.{lab, isStart, startRight, addressed, judged, dataPlace, dataOf}
@@ -19,17 +20,18 @@ use Rattle.catalog.specs.declared.AnswerName.{AnswerName}
 use Rattle.split.specs.Split.{isSplit}
 use Rattle.split.specs.declared.SubMessage.{SubMessage}
 use Rattle.store.specs.Layout.{narrow}
-use Rattle.store.specs.Check.{storeNumber}
+use Rattle.store.specs.Read.{lookupPlace, lookupBoth}
+use Rattle.store.specs.declared.TwoPlaces.{TwoPlaces}
 use Rattle.unit.specs.declared.Phase.{Phase}
 use Rattle.unit.specs.declared.Phase.the-variants.{Granted, Sending}
 use Rattle.unit.specs.declared.UnitState.{UnitState}
 use Rattle.unit.specs.declared.UnitReply.{UnitReply}
 use Rattle.unit.specs.declared.Reaction.{Reaction}
 use Rattle.unit.specs.declared.Reaction.the-variants.{Ignored, CommunicationStarted, AnswerSent}
-use Rattle.unit.specs.State.{isClosed}
-use Rattle.unit.specs.Call.{onData, reactionTo, withPhase, stateAfter, replyData, replyTo, unitNumber, unitState, unitReply, unitResult, unitOut}
-use Rattle.unit.specs.Sent.{placeSent, possibleAt, numberBehind, pieceSent}
-use Rattle.unit.proofs.StateLaws.{possible-sent}
+use Rattle.unit.specs.State.{isClosed, nameSent, possibleAt, possible}
+use Rattle.unit.specs.Call.{nameAsked, onData, reactionAt, reactionTo, withPhase, stateAfter, replyData, replyTo, numberBefore, unitNumber, unitState, unitReply, unitResult, unitOut}
+use Rattle.unit.specs.Sent.{pieceSent}
+use Rattle.unit.proofs.StateLaws.{place-most, possible-sent}
 use Rattle.unit.proofs.SentLaws.{sends-what-is}
 
 -- the SID, as the code read it
@@ -80,29 +82,23 @@ start-same b z = go (isStart b) refl
     go true e = rw (start-only b z e)
     go false e = start-first b e ∙ sym e
 
--- The returns of the reaction; heard is where the data of the frame lies, r whether it is the start frame, c whether the unit is closed
-module _ (s : List ℕ) (u : UnitState) (b : List ℕ) (heard : Place) (r : Bool) (located : heard ≡ dataPlace lab ends.Unit b) (fair : heard .number ≡ 0) (same : r ≡ sameBytes b start) where
-  is-good : judged lab ends.Unit b ≡ 0
-  unfolding dataPlace
-  is-good = ap (λ (p : Place). p .number) (sym located) ∙ fair
-
+-- The returns of the reaction to a good frame; r is whether it is the start frame, c whether the unit is closed
+module _ (sent asked : Place) (u : UnitState) (b : List ℕ) (r : Bool) (fair : judged lab ends.Unit b ≡ 0) (same : r ≡ sameBytes b start) where
   is-start : r ≡ isStart b
-  is-start = same ∙ start-same b is-good
+  is-start = same ∙ start-same b fair
 
-  pub reaction-start : r ≡ true → CommunicationStarted ≡ reactionTo lab s u b
-  unfolding reactionTo
+  pub reaction-start : r ≡ true → CommunicationStarted ≡ reactionAt lab sent asked u b
+  unfolding reactionAt
   reaction-start h = rw (← is-start, h)
 
   module _ (general : r ≡ false) (c : Bool) (closed : c ≡ isClosed (u .phase)) where
-    pub reaction-ignored : c ≡ true → Ignored ≡ reactionTo lab s u b
-    unfolding reactionTo
+    pub reaction-ignored : c ≡ true → Ignored ≡ reactionAt lab sent asked u b
+    unfolding reactionAt
     reaction-ignored h = rw (← is-start, general, ← closed, h)
 
-    pub reaction-data : (d : List ℕ) (x : Reaction) → c ≡ false → d ≡ partAt (heard .start) (heard .len) b → x ≡ onData s u d → x ≡ reactionTo lab s u b
-    unfolding reactionTo dataOf
-    reaction-data d x h e q =
-        let f : d ≡ dataOf lab ends.Unit b = e ∙ ap (λ (p : Place). partAt (p .start) (p .len) b) located in
-        rw (← is-start, general, ← closed, h, ← f) q
+    pub reaction-data : (d : List ℕ) (x : Reaction) → c ≡ false → d ≡ dataOf lab ends.Unit b → x ≡ onData sent asked u d → x ≡ reactionAt lab sent asked u b
+    unfolding reactionAt
+    reaction-data d x h e q = rw (← is-start, general, ← closed, h, ← e) q
 
 -- the phase behind an answer
 pub after-whole : (name : AnswerName) (k : SubMessage) (place : Place) → place .len ≤ 254 → Granted ≡ cond (isSplit (place .len - 2)) (Sending name k) Granted
@@ -119,64 +115,105 @@ pub state-sent : (u v : UnitState) (x : Reaction) (name : AnswerName) (k : SubMe
 unfolding stateAfter
 state-sent u v x name k place p e f q = rw (e, ← f) q
 
--- A call that is not refused; n is its number behind that of the store
+-- A reaction that a number may hold back to silence: the state stays, and nothing is replied
 
-module _ (u : UnitState) (place heard : Place) (room n : ℕ) (given : n ≡ numberBehind u place room (heard .number)) (zero : n ≡ 0) where
-  possibly : Both (possibleAt u place ≡ true) (unless (leb 260 room) 4 (heard .number) ≡ 0)
-  unfolding numberBehind
-  possibly = unless-is (possibleAt u place) 11 _ 0 refl (sym given ∙ zero)
+module _ (s : List ℕ) (u : UnitState) (x : Reaction) where
+  held-state : (t : Bool) → stateAfter u (cond t x Ignored) ≡ cond t (stateAfter u x) u
+  unfolding stateAfter
+  held-state true = refl
+  held-state false = refl
 
-  pub accepted-room : 260 ≤ room
-  accepted-room = leb-true _ _ (unless-is (leb 260 room) 4 (heard .number) 0 refl (possibly .rest) .first)
+  held-reply : (t : Bool) → replyTo lab (replyData s (cond t x Ignored)) ≡ cond t (replyTo lab (replyData s x)) []
+  unfolding replyTo replyData
+  held-reply true = refl
+  held-reply false = refl
 
-  pub accepted-frame : heard .number ≡ 0
-  accepted-frame = unless-is (leb 260 room) 4 (heard .number) 0 refl (possibly .rest) .rest
+  held-piece : (t : Bool) → pieceSent s x ≡ 0 → pieceSent s (cond t x Ignored) ≡ 0
+  unfolding pieceSent
+  held-piece true e = e
+  held-piece false e = refl
 
-  pub accepted-piece : (s b : List ℕ) (k : ℕ) (x : Reaction) → k ≡ storeNumber narrow s → k ≡ 0 → place ≡ placeSent s (u .phase) → x ≡ reactionTo lab s u b → pieceSent s x ≡ 0
-  accepted-piece s b k x e z q r =
-      rw r (sends-what-is s (sym e ∙ z) lab u b (sym (possible-sent s u place (possibleAt u place) q refl) ∙ possibly .first))
+-- The frame of a call: heard is where its data d lies
+module _ (b : List ℕ) (heard : Place) (located : heard ≡ dataPlace lab ends.Unit b) where
+  pub heard-number : heard .number ≡ judged lab ends.Unit b
+  unfolding dataPlace
+  heard-number = ap (λ (p : Place). p .number) located
 
--- What the call hands back, from its number r
-module _ (s : List ℕ) (u : UnitState) (b : List ℕ) (r : ℕ) where
-  refused : (room : ℕ) → r ≡ unitNumber lab s room u b → (r ≡ 0 → ⊥) → _≡_ {A = UnitReply} (record { number = r; state = u; len = 0 }) (unitResult lab s room u b)
-  unfolding unitResult unitState unitReply
-  refused room e n = rw (← e, ne-eqb r 0 n)
+  pub heard-data : (d : List ℕ) → d ≡ partAt (heard .start) (heard .len) b → d ≡ dataOf lab ends.Unit b
+  unfolding dataOf
+  heard-data d e = e ∙ ap (λ (p : Place). partAt (p .start) (p .len) b) located
 
-  unchanged : (o : List ℕ) → r ≡ unitNumber lab s (length o) u b → (r ≡ 0 → ⊥) → o ≡ unitOut lab s u b o
-  unfolding unitOut unitReply front
-  unchanged o e n = rw (← e, ne-eqb r 0 n)
+pub found-by : (s : List ℕ) (found : TwoPlaces) (sent asked : AnswerName) (phase : Phase) (d : List ℕ) → found ≡ lookupBoth narrow sent asked s → sent ≡ nameSent phase → asked ≡ nameAsked d
+    → found ≡ lookupBoth narrow (nameSent phase) (nameAsked d) s
+found-by s found sent asked phase d e p q = e ∙ rw (p, q)
 
--- The returns of the call; k is what the check of the store gave
-module _ (s : List ℕ) (u : UnitState) (b : List ℕ) (k : ℕ) (check : k ≡ storeNumber narrow s) where
-  number-broken : (room : ℕ) → (k ≡ 0 → ⊥) → k ≡ unitNumber lab s room u b
-  unfolding unitNumber
-  number-broken room n = rw (← check, ne-eqb k 0 n)
+-- The call on the data d of the frame b; found is what the store gave for the answer that is being sent and the one asked for
+module _ (s : List ℕ) (u : UnitState) (b d : List ℕ) (found : TwoPlaces) (given : found ≡ lookupBoth narrow (nameSent (u .phase)) (nameAsked d) s) where
+  first-found : found .first ≡ lookupPlace narrow (nameSent (u .phase)) s
+  first-found = ap (λ (p : TwoPlaces). p .first) given
 
-  pub result-broken : (room : ℕ) → (k ≡ 0 → ⊥) → _≡_ {A = UnitReply} (record { number = k; state = u; len = 0 }) (unitResult lab s room u b)
-  result-broken room n = refused s u b k room (number-broken room n) n
+  pub first-most : found .first .len ≤ 60000
+  first-most = place-most s (nameSent (u .phase)) (found .first) first-found
 
-  pub out-broken : (o : List ℕ) → (k ≡ 0 → ⊥) → o ≡ unitOut lab s u b o
-  out-broken o n = unchanged s u b k o (number-broken (length o) n) n
+  is-possible : possibleAt (found .first) u ≡ possible s u
+  is-possible = possible-sent s (nameSent (u .phase)) (found .first) first-found u (possibleAt (found .first) u) refl refl
 
-  -- n is the number behind that of the store
-  module _ (unbroken : k ≡ 0) (place heard : Place) (sent : place ≡ placeSent s (u .phase)) (located : heard ≡ dataPlace lab ends.Unit b) (n : ℕ) where
-    number-checked : (room : ℕ) → n ≡ numberBehind u place room (heard .number) → n ≡ unitNumber lab s room u b
-    unfolding unitNumber dataPlace numberBehind
-    number-checked room e =
-        let j : heard .number ≡ judged lab ends.Unit b = ap (λ (q : Place). q .number) located in
-        rw (← check, unbroken, ← possible-sent s u place (possibleAt u place) sent refl, ← j) e
+  -- n is the number before the frame's
+  module _ (n room : ℕ) (number : n ≡ numberBefore (found .number) (possibleAt (found .first) u) room) where
+    numbered : orElse n (judged lab ends.Unit b) ≡ unitNumber lab s room u b
+    unfolding unitNumber
+    numbered = rw (number, is-possible, given)
 
-    pub result-refused : (room : ℕ) → n ≡ numberBehind u place room (heard .number) → (n ≡ 0 → ⊥) → _≡_ {A = UnitReply} (record { number = n; state = u; len = 0 }) (unitResult lab s room u b)
-    result-refused room e z = refused s u b n room (number-checked room e) z
+    refused-number : (n ≡ 0 → ⊥) → unitNumber lab s room u b ≡ n
+    refused-number z = sym numbered ∙ rw (ne-eqb n 0 z)
 
-    pub out-refused : (o : List ℕ) → n ≡ numberBehind u place (length o) (heard .number) → (n ≡ 0 → ⊥) → o ≡ unitOut lab s u b o
-    out-refused o e z = unchanged s u b n o (number-checked (length o) e) z
+    pub result-refused : (n ≡ 0 → ⊥) → _≡_ {A = UnitReply} (record { number = n; state = u; len = 0 }) (unitResult lab s room u b)
+    unfolding unitResult unitState unitReply
+    result-refused z = rw (refused-number z, ne-eqb n 0 z)
 
-    module _ (x : Reaction) (reacts : x ≡ reactionTo lab s u b) where
-      pub result-done : (room : ℕ) (v : UnitState) (l : ℕ) → n ≡ numberBehind u place room (heard .number) → n ≡ 0 → v ≡ stateAfter u x → l ≡ length (replyTo lab (replyData s x)) → _≡_ {A = UnitReply} (record { number = 0; state = v; len = l }) (unitResult lab s room u b)
-      unfolding unitResult unitState unitReply
-      result-done room v l e z f g = rw (← number-checked room e, z, ← reacts, f, g)
+    module _ (zero : n ≡ 0) where
+      accepted : Both (found .number ≡ 0) (_≡_ {A = ℕ} (unless (possibleAt (found .first) u) 11 (unless (leb 260 room) 4 0)) 0)
+      unfolding numberBefore
+      accepted = or-zero (found .number) _ (sym number ∙ zero)
 
-      pub out-done : (o o′ : List ℕ) → n ≡ numberBehind u place (length o) (heard .number) → n ≡ 0 → o′ ≡ front (replyTo lab (replyData s x)) o → o′ ≡ unitOut lab s u b o
-      unfolding unitOut unitReply
-      out-done o o′ e z f = rw (← number-checked (length o) e, z, ← reacts) f
+      accepted-possible : Both (possibleAt (found .first) u ≡ true) (_≡_ {A = ℕ} (unless (leb 260 room) 4 0) 0)
+      accepted-possible = unless-is (possibleAt (found .first) u) 11 _ 0 refl (accepted .rest)
+
+      pub accepted-room : 260 ≤ room
+      accepted-room = leb-true _ _ (unless-is (leb 260 room) 4 0 0 refl (accepted-possible .rest) .first)
+
+      -- the reaction x; k is the number of the frame
+      module _ (k : ℕ) (x : Reaction) (reacts : x ≡ changedBy k (reactionAt lab (found .first) (found .second) u b) Ignored) (data-is : d ≡ dataOf lab ends.Unit b) where
+        reaction-is : x ≡ changedBy k (reactionTo lab s u b) Ignored
+        unfolding reactionTo
+        reaction-is = rw (reacts, given, data-is)
+
+        pub accepted-piece : pieceSent s x ≡ 0
+        accepted-piece =
+            rw reaction-is
+            (held-piece s u (reactionTo lab s u b) (eqb k 0)
+            (sends-what-is s (ap (λ (p : TwoPlaces). p .number) (sym given) ∙ accepted .first) lab u b (sym is-possible ∙ accepted-possible .first)))
+
+        module _ (judging : k ≡ judged lab ends.Unit b) where
+          accepted-number : unitNumber lab s room u b ≡ k
+          accepted-number = sym numbered ∙ rw (zero, judging)
+
+          replied : replyTo lab (replyData s x) ≡ unitReply lab s room u b
+          unfolding unitReply
+          replied = rw (reaction-is, accepted-number, held-reply s u (reactionTo lab s u b) (eqb k 0))
+
+          pub result-done : (v : UnitState) (l : ℕ) → v ≡ stateAfter u x → l ≡ length (replyTo lab (replyData s x)) → _≡_ {A = UnitReply} (record { number = k; state = v; len = l }) (unitResult lab s room u b)
+          unfolding unitResult unitState
+          result-done v l e f =
+              rw (f, replied, e, reaction-is, accepted-number, held-state s u (reactionTo lab s u b) (eqb k 0))
+
+  -- the buffer o after it
+  module _ (n : ℕ) (o : List ℕ) (number : n ≡ numberBefore (found .number) (possibleAt (found .first) u) (length o)) where
+    pub out-refused : (n ≡ 0 → ⊥) → o ≡ unitOut lab s u b o
+    unfolding unitOut unitReply front
+    out-refused z = rw (refused-number n (length o) number z, ne-eqb n 0 z)
+
+    pub out-done : (k : ℕ) (x : Reaction) (o′ : List ℕ) → n ≡ 0 → x ≡ changedBy k (reactionAt lab (found .first) (found .second) u b) Ignored → d ≡ dataOf lab ends.Unit b → k ≡ judged lab ends.Unit b
+        → o′ ≡ front (replyTo lab (replyData s x)) o → o′ ≡ unitOut lab s u b o
+    unfolding unitOut
+    out-done k x o′ zero reacts data-is judging e = e ∙ ap (λ (r : List ℕ). front r o) (replied n (length o) number zero k x reacts data-is judging)

@@ -1,4 +1,4 @@
--- Acknowledge, from the place of the answer that is being sent; and every sub message that a reaction sends is there.
+-- Every sub message that a reaction sends is there.
 use Prim.Native.Nat.{ℕ, _+_, _-_, _≤_}
 use mathlib.Core.Bool.{Bool, true, false, cond, not, _&&_, _||_}
 use mathlib.Core.List.{List}
@@ -21,8 +21,9 @@ use Rattle.catalog.specs.Table.{knownTo, isActivities}
 use Rattle.catalog.specs.Name.{dayNamed}
 use Rattle.catalog.specs.declared.AnswerName.{AnswerName}
 use Rattle.split.specs.Split.{countOf, pieceNumber}
-use Rattle.split.specs.Codes.{sub, acknowledgeOf, repeatOf, stopCode}
+use Rattle.split.specs.Codes.{sub, code, sameCode, acknowledgeOf, repeatOf, stopCode}
 use Rattle.split.specs.declared.SubMessage.{SubMessage}
+use Rattle.split.specs.declared.AckCode.{AckCode}
 use Rattle.split.proofs.SplitLaws.{piece-zero}
 use Rattle.split.proofs.Theorems.{count-one, count-split}
 use Rattle.store.specs.Layout.{narrow}
@@ -33,27 +34,12 @@ use Rattle.unit.specs.declared.Phase.the-variants.{Closed, Started, Sess
 use Rattle.unit.specs.declared.UnitState.{UnitState}
 use Rattle.unit.specs.declared.Reaction.{Reaction}
 use Rattle.unit.specs.declared.Reaction.the-variants.{AnswerSent, Negative}
-use Rattle.unit.specs.State.{isClosed, inSession, isGranted, sendable, phasePossible, possible}
+use Rattle.unit.specs.State.{isClosed, inSession, isGranted, placeSent, sendable, phasePossible, possibleAt, possible}
 use Rattle.unit.specs.Services.{onSession, onRateOffer, onRateChange, onLinkControl, onUpload, requestName, answerFrom, onTransfer, onExit, onStop, onCode, onSending, onAcknowledge}
-use Rattle.unit.specs.Call.{onData, reactionTo}
-use Rattle.unit.specs.Sent.{placeSent, onSendingAt, onAcknowledgeAt, pieceSent}
+use Rattle.unit.specs.Call.{nameAsked, placeAsked, onData, reactionAt, reactionTo}
+use Rattle.unit.specs.Sent.{pieceSent}
 use Rattle.unit.proofs.StoreFacts.{InStore, found-in}
 use Rattle.unit.proofs.StateLaws.{sendable-says}
-
--- Acknowledge
-
-module _ (s : List ℕ) where
-  sending-at : (phase : Phase) (c : ℕ) → onSendingAt phase (placeSent s phase) c ≡ onSending phase s c
-  unfolding onSendingAt placeSent onSending
-  sending-at Closed c = refl
-  sending-at Started c = refl
-  sending-at Session c = refl
-  sending-at Granted c = refl
-  sending-at (Sending name last) c = refl
-
-  pub acknowledge-sent : (phase : Phase) (place : Place) (d : List ℕ) (r : Reaction) → place ≡ placeSent s phase → r ≡ onAcknowledgeAt phase place d → r ≡ onAcknowledge phase s d
-  unfolding onAcknowledgeAt onAcknowledge
-  acknowledge-sent phase place d r e q = q ∙ rw (e, sending-at phase (numberAt 2 2 d))
 
 -- Sub messages
 
@@ -121,41 +107,41 @@ module _ (s : List ℕ) where
   from-stop d = either (eqb (length d) 1) _ _ refl refl
 
   module _ (unbroken : storeNumber narrow s ≡ 0) where
-    -- the first sub message of an answer that is held
-    first-sent : (name : AnswerName) → pieceSent s (answerFrom name (sub 1) (lookupPlace narrow name s)) ≡ 0
+    -- the first sub message of the answer that was looked up, if it is held
+    first-sent : (name asked : AnswerName) → pieceSent s (answerFrom name (sub 1) (lookupPlace narrow asked s)) ≡ 0
     unfolding pieceSent answerFrom
-    first-sent name = go (eqb (lookupPlace narrow name s .number) 0) refl
+    first-sent name asked = go (eqb (lookupPlace narrow asked s .number) 0) refl
       where
-        go : (t : Bool) → eqb (lookupPlace narrow name s .number) 0 ≡ t → pieceSent s (cond t (AnswerSent name (sub 1) (lookupPlace narrow name s)) (Negative 0x36 0xFA)) ≡ 0
-        go true e = piece-in (lookupPlace narrow name s .start) (lookupPlace narrow name s .len) 1 (found-in s name unbroken (eqb-true _ _ e)) (omega arith) (count-some _)
+        go : (t : Bool) → eqb (lookupPlace narrow asked s .number) 0 ≡ t → pieceSent s (cond t (AnswerSent name (sub 1) (lookupPlace narrow asked s)) (Negative 0x36 0xFA)) ≡ 0
+        go true e = piece-in (lookupPlace narrow asked s .start) (lookupPlace narrow asked s .len) 1 (found-in s asked unbroken (eqb-true _ _ e)) (omega arith) (count-some _)
         go false e = refl
 
-    from-transfer : (kind : ℕ) (phase : Phase) (d : List ℕ) → pieceSent s (onTransfer kind phase s d) ≡ 0
+    from-transfer : (kind : ℕ) (phase : Phase) (asked : AnswerName) (d : List ℕ) → pieceSent s (onTransfer kind phase (lookupPlace narrow asked s) d) ≡ 0
     unfolding pieceSent onTransfer
-    from-transfer kind phase d =
+    from-transfer kind phase asked d =
         either (leb 2 (length d)) _ _
         (either (knownTo kind (getD d 1 0)) _ _
         (either (eqb (length d) (cond (isActivities (getD d 1 0)) 6 2)) _ _
         (either (dayNamed (requestName d)) _ _
-        (either (isGranted phase) _ _ (first-sent (requestName d)) refl) refl) refl) refl) refl
+        (either (isGranted phase) _ _ (first-sent (requestName d) asked) refl) refl) refl) refl) refl
 
     -- the last one again, or the next one
-    from-code : (name : AnswerName) (last : SubMessage) (c : ℕ) → sendable (lookupPlace narrow name s) last ≡ true → pieceSent s (onCode name last (lookupPlace narrow name s) c) ≡ 0
+    from-code : (name : AnswerName) (last : SubMessage) (c : AckCode) → sendable (lookupPlace narrow name s) last ≡ true → pieceSent s (onCode name last (lookupPlace narrow name s) c) ≡ 0
     unfolding pieceSent onCode
     from-code name last c h =
         let place : Place = lookupPlace narrow name s in
         let t = sendable-says place last h in
         let i = found-in s name unbroken (t .held) in
-        either (eqb c (repeatOf last .0)) _ _ (piece-in (place .start) (place .len) (last .0) i (t .first) (t .last))
-        (either (eqb c (acknowledgeOf last .0)) _ _ (next (leb (last .0 + 1) (countOf (place .len - 2))) refl i)
-        (either (eqb c (stopCode .0)) _ _ refl refl))
+        either (sameCode c (repeatOf last)) _ _ (piece-in (place .start) (place .len) (last .0) i (t .first) (t .last))
+        (either (sameCode c (acknowledgeOf last)) _ _ (next (leb (last .0 + 1) (countOf (place .len - 2))) refl i)
+        (either (sameCode c stopCode) _ _ refl refl))
       where
         next : (b : Bool) → leb (last .0 + 1) (countOf (lookupPlace narrow name s .len - 2)) ≡ b → InStore s (lookupPlace narrow name s .start) (lookupPlace narrow name s .len)
             → pieceSent s (cond b (AnswerSent name (sub (last .0 + 1)) (lookupPlace narrow name s)) (Negative 0x83 0x12)) ≡ 0
         next true e i = piece-in (lookupPlace narrow name s .start) (lookupPlace narrow name s .len) (last .0 + 1) i (omega arith) (leb-true _ _ e)
         next false e i = refl
 
-    from-sending : (phase : Phase) (c : ℕ) → phasePossible s phase ≡ true → pieceSent s (onSending phase s c) ≡ 0
+    from-sending : (phase : Phase) (c : AckCode) → phasePossible (placeSent s phase) phase ≡ true → pieceSent s (onSending phase (placeSent s phase) c) ≡ 0
     unfolding pieceSent onSending phasePossible
     from-sending Closed c h = refl
     from-sending Started c h = refl
@@ -163,16 +149,16 @@ module _ (s : List ℕ) where
     from-sending Granted c h = refl
     from-sending (Sending name last) c h = from-code name last c h
 
-    from-acknowledge : (phase : Phase) (d : List ℕ) → phasePossible s phase ≡ true → pieceSent s (onAcknowledge phase s d) ≡ 0
+    from-acknowledge : (phase : Phase) (d : List ℕ) → phasePossible (placeSent s phase) phase ≡ true → pieceSent s (onAcknowledge phase (placeSent s phase) d) ≡ 0
     unfolding pieceSent onAcknowledge
     from-acknowledge phase d h =
         either (eqb (length d) 4) _ _
-        (either (eqb (getD d 1 0) 0x76) _ _ (from-sending phase (numberAt 2 2 d) h) refl) refl
+        (either (eqb (getD d 1 0) 0x76) _ _ (from-sending phase (code (numberAt 2 2 d)) h) refl) refl
 
-    from-data : (u : UnitState) (d : List ℕ) → phasePossible s (u .phase) ≡ true → pieceSent s (onData s u d) ≡ 0
+    from-data : (u : UnitState) (d : List ℕ) → phasePossible (placeSent s (u .phase)) (u .phase) ≡ true → pieceSent s (onData (placeSent s (u .phase)) (placeAsked s d) u d) ≡ 0
     unfolding pieceSent onData
     from-data u d h =
-        either (eqb (getD d 0 0) 0x36) _ _ (from-transfer (u .kind) (u .phase) d)
+        either (eqb (getD d 0 0) 0x36) _ _ (from-transfer (u .kind) (u .phase) (nameAsked d) d)
         (either (eqb (getD d 0 0) 0x83) _ _ (from-acknowledge (u .phase) d h)
         (either (eqb (getD d 0 0) 0x10) _ _ (from-session d)
         (either (eqb (getD d 0 0) 0x87) _ _ (from-link (u .phase) (u .pending) d)
@@ -182,10 +168,10 @@ module _ (s : List ℕ) where
 
     -- whatever a unit in a possible state sends from an unbroken store is there
     pub sends-what-is : (a : Addresses) (u : UnitState) (b : List ℕ) → possible s u ≡ true → pieceSent s (reactionTo a s u b) ≡ 0
-    unfolding pieceSent reactionTo possible
+    unfolding pieceSent reactionTo reactionAt possible possibleAt
     sends-what-is a u b h =
         let q = and-right (ltb (u .kind) 3) _ h in
         let r = and-right (leb 1 (u .rate) && leb (u .rate) 5) _ q in
-        let p : phasePossible s (u .phase) ≡ true = and-right (leb (u .pending) 5) _ r in
+        let p : phasePossible (placeSent s (u .phase)) (u .phase) ≡ true = and-right (leb (u .pending) 5) _ r in
         either (isStart b) _ _ refl
         (either (isClosed (u .phase)) _ _ refl (from-data u (dataOf a ends.Unit b) p))

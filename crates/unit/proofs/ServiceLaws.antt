@@ -14,22 +14,18 @@ use Rattle.octets.specs.declared.Place.{Place}
 use Rattle.octets.proofs.Tests.{flag-nt, flag-nf}
 use Rattle.octets.proofs.NumberLaws.{read-two}
 use Rattle.catalog.specs.Table.{knownTo, isActivities}
-use Rattle.catalog.specs.Name.{dayNamed}
+use Rattle.catalog.specs.Name.{noAnswer, dayNamed}
 use Rattle.catalog.specs.declared.AnswerName.{AnswerName}
 use Rattle.split.specs.Split.{countOf}
-use Rattle.split.specs.Codes.{sub, acknowledgeOf, repeatOf, stopCode}
+use Rattle.split.specs.Codes.{sub, code, acknowledgeOf, repeatOf, stopCode}
 use Rattle.split.specs.declared.SubMessage.{SubMessage}
 use Rattle.split.specs.declared.AckCode.{AckCode}
-use Rattle.store.specs.Layout.{narrow}
-use Rattle.store.specs.Check.{storeNumber}
-use Rattle.store.specs.Read.{findPlace}
-use Rattle.store.proofs.ReadLaws.{place-checked}
 use Rattle.unit.specs.declared.Phase.{Phase}
 use Rattle.unit.specs.declared.Reaction.{Reaction}
 use Rattle.unit.specs.declared.Reaction.the-variants.{AnswerSent, AnswerStopped, Negative}
 use Rattle.unit.specs.State.{isGranted}
-use Rattle.unit.specs.Services.{requestName, answerFrom, onTransfer, onCode}
-use Rattle.unit.specs.Sent.{onSendingAt}
+use Rattle.unit.specs.Services.{requestName, answerFrom, onTransfer, onCode, onSending}
+use Rattle.unit.specs.Call.{nameAsked}
 
 -- A request that is its SID alone: the comparison with the fixed string is that of the length
 alone : (sid : ℕ) (d : List ℕ) → getD d 0 0 ≡ sid → sameBytes d (sid ∷ []) ≡ eqb (length d) 1
@@ -68,62 +64,70 @@ module _ (d : List ℕ) (t : ℕ) (a : Bool) (read : t ≡ getD d 1 0) (asked : 
   name-alone h = rw (← read, ← asked, h)
 
 -- The returns of transfer data; n is the length that the TRTP asks for
-module _ (kind : ℕ) (phase : Phase) (s d : List ℕ) where
-  pub transfer-short : length d < 2 → Negative 0x36 0x13 ≡ onTransfer kind phase s d
+module _ (kind : ℕ) (phase : Phase) (place : Place) (d : List ℕ) where
+  pub transfer-short : length d < 2 → Negative 0x36 0x13 ≡ onTransfer kind phase place d
   unfolding onTransfer
   transfer-short h = rw (lt-leb 2 (length d) h)
 
   module _ (two : 2 ≤ length d) (k : Bool) (known : k ≡ knownTo kind (getD d 1 0)) where
-    pub transfer-unknown : not k ≡ true → Negative 0x36 0x12 ≡ onTransfer kind phase s d
+    pub transfer-unknown : not k ≡ true → Negative 0x36 0x12 ≡ onTransfer kind phase place d
     unfolding onTransfer
     transfer-unknown h = rw (le-leb 2 (length d) two, flag-nf known h)
 
     module _ (yes : not k ≡ false) (n : ℕ) (asked : n ≡ cond (isActivities (getD d 1 0)) 6 2) where
-      pub transfer-long : (length d ≡ n → ⊥) → Negative 0x36 0x13 ≡ onTransfer kind phase s d
+      pub transfer-long : (length d ≡ n → ⊥) → Negative 0x36 0x13 ≡ onTransfer kind phase place d
       unfolding onTransfer
       transfer-long h = rw (le-leb 2 (length d) two, flag-nt known yes, ← asked, ne-eqb (length d) n h)
 
       module _ (exact : length d ≡ n) (name : AnswerName) (named : name ≡ requestName d) (m : Bool) (day : m ≡ dayNamed name) where
-        pub transfer-day : not m ≡ true → Negative 0x36 0x31 ≡ onTransfer kind phase s d
+        pub transfer-day : not m ≡ true → Negative 0x36 0x31 ≡ onTransfer kind phase place d
         unfolding onTransfer
         transfer-day h = rw (le-leb 2 (length d) two, flag-nt known yes, ← asked, eq-eqb (length d) n exact, ← named, flag-nf day h)
 
         module _ (may : not m ≡ false) (g : Bool) (granted : g ≡ isGranted phase) where
-          pub transfer-turn : not g ≡ true → Negative 0x36 0x22 ≡ onTransfer kind phase s d
+          pub transfer-turn : not g ≡ true → Negative 0x36 0x22 ≡ onTransfer kind phase place d
           unfolding onTransfer
           transfer-turn h = rw (le-leb 2 (length d) two, flag-nt known yes, ← asked, eq-eqb (length d) n exact, ← named, flag-nt day may, flag-nf granted h)
 
-          pub transfer-answer : (place : Place) (r : Reaction) → not g ≡ false → storeNumber narrow s ≡ 0 → place ≡ findPlace narrow name s → r ≡ answerFrom name (sub 1) place → r ≡ onTransfer kind phase s d
+          pub transfer-answer : (r : Reaction) → not g ≡ false → r ≡ answerFrom name (sub 1) place → r ≡ onTransfer kind phase place d
           unfolding onTransfer
-          transfer-answer place r h z f q =
-              rw (le-leb 2 (length d) two, flag-nt known yes, ← asked, eq-eqb (length d) n exact, ← named, flag-nt day may, flag-nt granted h, ← place-checked s name 0 (sym z) place refl f) q
+          transfer-answer r h q =
+              rw (le-leb 2 (length d) two, flag-nt known yes, ← asked, eq-eqb (length d) n exact, ← named, flag-nt day may, flag-nt granted h) q
+
+-- the answer that a frame's data asks for; t is its first byte
+module _ (d : List ℕ) (t : ℕ) (read : t ≡ getD d 0 0) where
+  pub asked-transfer : (name : AnswerName) → t ≡ 0x36 → name ≡ requestName d → name ≡ nameAsked d
+  asked-transfer name h e = rw (eq-eqb (getD d 0 0) 0x36 (sym read ∙ h)) e
+
+  pub asked-other : (name : AnswerName) → (t ≡ 0x36 → ⊥) → name ≡ noAnswer → name ≡ nameAsked d
+  asked-other name h e = rw (ne-eqb (getD d 0 0) 0x36 (λ q. h (read ∙ q))) e
 
 -- two codes that were compared
-code-differs : (x : ℕ) (r code : AckCode) → (x ≡ r .0 → ⊥) → r ≡ code → eqb x (code .0) ≡ false
-code-differs x r code n q = ne-eqb x (code .0) (λ e. n (e ∙ ap (λ (k : AckCode). k .0) (sym q)))
+code-differs : (x : ℕ) (r k : AckCode) → (x ≡ r .0 → ⊥) → r ≡ k → eqb x (k .0) ≡ false
+code-differs x r k n q = ne-eqb x (k .0) (λ e. n (e ∙ ap (λ (y : AckCode). y .0) (sym q)))
 
-code-same : (x : ℕ) (r code : AckCode) → x ≡ r .0 → r ≡ code → eqb x (code .0) ≡ true
-code-same x r code e q = eq-eqb x (code .0) (e ∙ ap (λ (k : AckCode). k .0) q)
+code-same : (x : ℕ) (r k : AckCode) → x ≡ r .0 → r ≡ k → eqb x (k .0) ≡ true
+code-same x r k e q = eq-eqb x (k .0) (e ∙ ap (λ (y : AckCode). y .0) q)
 
 -- The returns of a code; a, b and s are the codes that `split::codes` gave
-module _ (name : AnswerName) (last : SubMessage) (place : Place) (c : ℕ) (a : AckCode) (again : a ≡ repeatOf last) where
-  pub code-repeat : c ≡ a .0 → AnswerSent name last place ≡ onCode name last place c
+module _ (name : AnswerName) (last : SubMessage) (place : Place) (c a : AckCode) (again : a ≡ repeatOf last) where
+  pub code-repeat : c .0 ≡ a .0 → AnswerSent name last place ≡ onCode name last place c
   unfolding onCode
-  code-repeat h = rw (code-same c a (repeatOf last) h again)
+  code-repeat h = rw (code-same (c .0) a (repeatOf last) h again)
 
-  module _ (not-again : c ≡ a .0 → ⊥) (b : AckCode) (next : b ≡ acknowledgeOf last) where
-    pub code-next : (r : Reaction) → c ≡ b .0 → r ≡ unless (leb (last .0 + 1) (countOf (place .len - 2))) (Negative 0x83 0x12) (AnswerSent name (sub (last .0 + 1)) place) → r ≡ onCode name last place c
+  module _ (not-again : c .0 ≡ a .0 → ⊥) (b : AckCode) (next : b ≡ acknowledgeOf last) where
+    pub code-next : (r : Reaction) → c .0 ≡ b .0 → r ≡ unless (leb (last .0 + 1) (countOf (place .len - 2))) (Negative 0x83 0x12) (AnswerSent name (sub (last .0 + 1)) place) → r ≡ onCode name last place c
     unfolding onCode
-    code-next r h q = rw (code-differs c a (repeatOf last) not-again again, code-same c b (acknowledgeOf last) h next) q
+    code-next r h q = rw (code-differs (c .0) a (repeatOf last) not-again again, code-same (c .0) b (acknowledgeOf last) h next) q
 
-    module _ (not-next : c ≡ b .0 → ⊥) (s : AckCode) (stop : s ≡ stopCode) where
-      pub code-stop : c ≡ s .0 → AnswerStopped ≡ onCode name last place c
+    module _ (not-next : c .0 ≡ b .0 → ⊥) (s : AckCode) (stop : s ≡ stopCode) where
+      pub code-stop : c .0 ≡ s .0 → AnswerStopped ≡ onCode name last place c
       unfolding onCode
-      code-stop h = rw (code-differs c a (repeatOf last) not-again again, code-differs c b (acknowledgeOf last) not-next next, code-same c s stopCode h stop)
+      code-stop h = rw (code-differs (c .0) a (repeatOf last) not-again again, code-differs (c .0) b (acknowledgeOf last) not-next next, code-same (c .0) s stopCode h stop)
 
-      pub code-other : (c ≡ s .0 → ⊥) → Negative 0x83 0x22 ≡ onCode name last place c
+      pub code-other : (c .0 ≡ s .0 → ⊥) → Negative 0x83 0x22 ≡ onCode name last place c
       unfolding onCode
-      code-other h = rw (code-differs c a (repeatOf last) not-again again, code-differs c b (acknowledgeOf last) not-next next, code-differs c s stopCode h stop)
+      code-other h = rw (code-differs (c .0) a (repeatOf last) not-again again, code-differs (c .0) b (acknowledgeOf last) not-next next, code-differs (c .0) s stopCode h stop)
 
 -- The sub message behind the last one; n is the count
 module _ (name : AnswerName) (last : ℕ) (place : Place) (n : ℕ) (count : n ≡ countOf (place .len - 2)) where
@@ -134,9 +138,9 @@ module _ (name : AnswerName) (last : ℕ) (place : Place) (n : ℕ) (count : n �
   next-such h = rw (← count, le-leb (last + 1) n h)
 
 -- a code is heard by the answer that is being sent
-pub sending-is : (phase p : Phase) (place : Place) (r : Reaction) (c : ℕ) → phase ≡ p → r ≡ onSendingAt p place c → r ≡ onSendingAt phase place c
+pub sending-is : (phase p : Phase) (place : Place) (r : Reaction) (c : AckCode) → phase ≡ p → r ≡ onSending p place c → r ≡ onSending phase place c
 sending-is phase p place r c e q = rw e q
 
 -- the code of an acknowledgement stands in its third and fourth byte
-pub code-read : (phase : Phase) (place : Place) (d : List ℕ) (r : Reaction) (c : ℕ) → length d ≡ 4 → c ≡ numberOf (getD d 2 0 ∷ getD d 3 0 ∷ []) → r ≡ onSendingAt phase place c → r ≡ onSendingAt phase place (numberAt 2 2 d)
-code-read phase place d r c n e q = q ∙ ap (onSendingAt phase place) (read-two 2 d c 2 (omega arith) (omega arith) refl e)
+pub code-read : (phase : Phase) (place : Place) (d : List ℕ) (r : Reaction) (c : ℕ) → length d ≡ 4 → c ≡ numberOf (getD d 2 0 ∷ getD d 3 0 ∷ []) → r ≡ onSending phase place (code c) → r ≡ onSending phase place (code (numberAt 2 2 d))
+code-read phase place d r c n e q = q ∙ ap (λ (k : ℕ). onSending phase place (code k)) (read-two 2 d c 2 (omega arith) (omega arith) refl e)

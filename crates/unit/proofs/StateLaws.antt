@@ -14,14 +14,11 @@ use Rattle.split.specs.Split.{countOf, subMessages}
 use Rattle.split.specs.declared.SubMessage.{SubMessage}
 use Rattle.split.proofs.Theorems.{count-one, count-split}
 use Rattle.store.specs.Layout.{narrow}
-use Rattle.store.specs.Check.{storeNumber}
-use Rattle.store.specs.Read.{findPlace}
-use Rattle.store.proofs.ReadLaws.{place-broken, place-checked}
+use Rattle.store.specs.Read.{lookupPlace}
 use Rattle.unit.specs.declared.Phase.{Phase}
 use Rattle.unit.specs.declared.Phase.the-variants.{Closed, Started, Session, Granted, Sending}
 use Rattle.unit.specs.declared.UnitState.{UnitState}
-use Rattle.unit.specs.State.{sendable, phasePossible, possible}
-use Rattle.unit.specs.Sent.{placeSent, phasePossibleAt, possibleAt}
+use Rattle.unit.specs.State.{nameSent, sendable, phasePossible, possibleAt, possible}
 use Rattle.unit.proofs.StoreFacts.{found-most}
 
 -- How many sub messages the answer at a place takes; n is its length, 76 and TREP included
@@ -77,59 +74,23 @@ sendable-says place k e =
     }
 
 -- possible, from the answer about the phase
-pub phase-is : (phase p : Phase) (place : Place) (r : Bool) → phase ≡ p → r ≡ phasePossibleAt p place → r ≡ phasePossibleAt phase place
+pub phase-is : (phase p : Phase) (place : Place) (r : Bool) → phase ≡ p → r ≡ phasePossible place p → r ≡ phasePossible place phase
 phase-is phase p place r e q = rw e q
 
-pub possible-is : (u : UnitState) (place : Place) (r : Bool) → r ≡ phasePossibleAt (u .phase) place
-    → (ltb (u .kind) 3 && ((leb 1 (u .rate) && leb (u .rate) 5) && (leb (u .pending) 5 && r))) ≡ possibleAt u place
+pub possible-is : (u : UnitState) (place : Place) (r : Bool) → r ≡ phasePossible place (u .phase)
+    → (ltb (u .kind) 3 && ((leb 1 (u .rate) && leb (u .rate) 5) && (leb (u .pending) 5 && r))) ≡ possibleAt place u
 unfolding possibleAt
 possible-is u place r e = rw e
 
--- The place of the answer that is being sent; the store was checked before
-module _ (s : List ℕ) (phase : Phase) where
-  pub sent-found : (name : AnswerName) (last : SubMessage) (place : Place) → phase ≡ Sending name last → storeNumber narrow s ≡ 0 → place ≡ findPlace narrow name s → place ≡ placeSent s phase
-  unfolding placeSent
-  sent-found name last place e z q = rw e (place-checked s name 0 (sym z) place refl q)
+-- the name of the answer that is being sent, by the phase
+pub name-is : (phase p : Phase) (name : AnswerName) → phase ≡ p → name ≡ nameSent p → name ≡ nameSent phase
+name-is phase p name e q = rw e q
 
-  -- where nothing is being sent
-  pub sent-none : (place : Place) (p : Phase) → phase ≡ p → place ≡ placeSent s p → place ≡ placeSent s phase
-  sent-none place p e q = rw e q
+-- The place where a name was found; name is that of the answer that is being sent
+module _ (s : List ℕ) (name : AnswerName) (place : Place) (found : place ≡ lookupPlace narrow name s) where
+  pub place-most : place .len ≤ 60000
+  place-most = rw found (found-most s name)
 
-  pub sent-most : (place : Place) → place ≡ placeSent s phase → place .len ≤ 60000
-  unfolding placeSent
-  sent-most place e = rw e (go phase)
-    where
-      go : (p : Phase) → placeSent s p .len ≤ 60000
-      go Closed = omega arith
-      go Started = omega arith
-      go Session = omega arith
-      go Granted = omega arith
-      go (Sending name last) = found-most s name
-
--- possible, from that place
-module _ (s : List ℕ) where
-  phase-at : (phase : Phase) → phasePossibleAt phase (placeSent s phase) ≡ phasePossible s phase
-  unfolding phasePossibleAt placeSent phasePossible
-  phase-at Closed = refl
-  phase-at Started = refl
-  phase-at Session = refl
-  phase-at Granted = refl
-  phase-at (Sending name last) = refl
-
-  -- in a broken store no answer is held
-  phase-broken : (r : ℕ) → r ≡ storeNumber narrow s → (r ≡ 0 → ⊥) → (phase : Phase) → phasePossibleAt phase (record { number = r; start = 0; len = 0 }) ≡ phasePossible s phase
-  unfolding phasePossibleAt phasePossible
-  phase-broken r e n Closed = refl
-  phase-broken r e n Started = refl
-  phase-broken r e n Session = refl
-  phase-broken r e n Granted = refl
-  phase-broken r e n (Sending name last) = ap (λ (p : Place). sendable p last) (place-broken s name r e n)
-
-  module _ (u : UnitState) where
-    pub possible-sent : (place : Place) (r : Bool) → place ≡ placeSent s (u .phase) → r ≡ possibleAt u place → r ≡ possible s u
-    unfolding possibleAt possible
-    possible-sent place r e q = q ∙ rw (e, phase-at (u .phase))
-
-    pub possible-broken : (n : ℕ) (r : Bool) → n ≡ storeNumber narrow s → (n ≡ 0 → ⊥) → r ≡ possibleAt u (record { number = n; start = 0; len = 0 }) → r ≡ possible s u
-    unfolding possibleAt possible
-    possible-broken n r e z q = q ∙ rw (phase-broken n e z (u .phase))
+  pub possible-sent : (u : UnitState) (r : Bool) → name ≡ nameSent (u .phase) → r ≡ possibleAt place u → r ≡ possible s u
+  unfolding possible
+  possible-sent u r e q = rw (← e, ← found) q

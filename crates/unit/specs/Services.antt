@@ -14,10 +14,9 @@ use Rattle.catalog.specs.Table.{knownTo, isActivities}
 use Rattle.catalog.specs.Name.{dayNamed}
 use Rattle.catalog.specs.declared.AnswerName.{AnswerName}
 use Rattle.split.specs.Split.{countOf}
-use Rattle.split.specs.Codes.{sub, acknowledgeOf, repeatOf, stopCode}
+use Rattle.split.specs.Codes.{sub, code, sameCode, acknowledgeOf, repeatOf, stopCode}
 use Rattle.split.specs.declared.SubMessage.{SubMessage}
-use Rattle.store.specs.Layout.{narrow}
-use Rattle.store.specs.Read.{lookupPlace}
+use Rattle.split.specs.declared.AckCode.{AckCode}
 use Rattle.unit.specs.declared.Phase.{Phase}
 use Rattle.unit.specs.declared.Phase.the-variants.{Closed, Started, Session, Granted, Sending}
 use Rattle.unit.specs.declared.Reaction.{Reaction}
@@ -73,15 +72,15 @@ requestName d =
 unfoldable pub answerFrom : AnswerName → SubMessage → Place → Reaction
 answerFrom name k place = unless (eqb (place .number) 0) (Negative 0x36 0xFA) (AnswerSent name k place)
 
--- "In 36 a day that is no multiple of 86,400 is 31"
-unfoldable pub onTransfer : ℕ → Phase → List ℕ → List ℕ → Reaction
-onTransfer kind phase store d =
+-- "In 36 a day that is no multiple of 86,400 is 31"; asked is where the answer lies
+unfoldable pub onTransfer : ℕ → Phase → Place → List ℕ → Reaction
+onTransfer kind phase asked d =
     unless (leb 2 (length d)) (Negative 0x36 0x13)
     (unless (knownTo kind (getD d 1 0)) (Negative 0x36 0x12)
     (unless (eqb (length d) (cond (isActivities (getD d 1 0)) 6 2)) (Negative 0x36 0x13)
     (unless (dayNamed (requestName d)) (Negative 0x36 0x31)
     (unless (isGranted phase) (Negative 0x36 0x22)
-    (answerFrom (requestName d) (sub 1) (lookupPlace narrow (requestName d) store))))))
+    (answerFrom (requestName d) (sub 1) asked)))))
 
 -- "37 | granted, sending | 77, session"
 unfoldable pub onExit : Phase → List ℕ → Reaction
@@ -95,24 +94,24 @@ unfoldable pub onStop : List ℕ → Reaction
 onStop d = unless (eqb (length d) 1) (Negative 0x82 0x13) CommunicationStopped
 
 -- "Code (DDP_017): last sent, send it again; last sent plus 1, send the next, or 12 if there is none; FFFF, silence, granted; any other, 22"
-unfoldable pub onCode : AnswerName → SubMessage → Place → ℕ → Reaction
-onCode name last place c =
-    cond (eqb c (repeatOf last .0)) (AnswerSent name last place)
-    (cond (eqb c (acknowledgeOf last .0))
-    (unless (leb (last .0 + 1) (countOf (place .len - 2))) (Negative 0x83 0x12) (AnswerSent name (sub (last .0 + 1)) place))
-    (cond (eqb c (stopCode .0)) AnswerStopped (Negative 0x83 0x22)))
+unfoldable pub onCode : AnswerName → SubMessage → Place → AckCode → Reaction
+onCode name last sent c =
+    cond (sameCode c (repeatOf last)) (AnswerSent name last sent)
+    (cond (sameCode c (acknowledgeOf last))
+    (unless (leb (last .0 + 1) (countOf (sent .len - 2))) (Negative 0x83 0x12) (AnswerSent name (sub (last .0 + 1)) sent))
+    (cond (sameCode c stopCode) AnswerStopped (Negative 0x83 0x22)))
 
--- only an answer that is being sent can be acknowledged
-unfoldable pub onSending : Phase → List ℕ → ℕ → Reaction
-onSending Closed store c = Negative 0x83 0x22
-onSending Started store c = Negative 0x83 0x22
-onSending Session store c = Negative 0x83 0x22
-onSending Granted store c = Negative 0x83 0x22
-onSending (Sending name last) store c = onCode name last (lookupPlace narrow name store) c
+-- only an answer that is being sent can be acknowledged; sent is where it lies
+unfoldable pub onSending : Phase → Place → AckCode → Reaction
+onSending Closed sent c = Negative 0x83 0x22
+onSending Started sent c = Negative 0x83 0x22
+onSending Session sent c = Negative 0x83 0x22
+onSending Granted sent c = Negative 0x83 0x22
+onSending (Sending name last) sent c = onCode name last sent c
 
 -- "83 76 and a code | sending"; "In 83 a second byte other than 76 is 31"
-unfoldable pub onAcknowledge : Phase → List ℕ → List ℕ → Reaction
-onAcknowledge phase store d =
+unfoldable pub onAcknowledge : Phase → Place → List ℕ → Reaction
+onAcknowledge phase sent d =
     unless (eqb (length d) 4) (Negative 0x83 0x13)
     (unless (eqb (getD d 1 0) 0x76) (Negative 0x83 0x31)
-    (onSending phase store (numberAt 2 2 d)))
+    (onSending phase sent (code (numberAt 2 2 d))))

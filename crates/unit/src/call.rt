@@ -18,45 +18,49 @@ use octets::Place;
 use octets::numbers::BUFFER_SHORT;
 use octets::numbers::OUT_OF_TURN;
 use split::SubMessage;
+use store::TwoPlaces;
 ghost use mathlib.Core.Path.{_≡_};
 ghost use mathlib.Core.Bool.{cond};
 ghost use Prim.Native.Nat.{_-_, _≤_};
 ghost use lib.ListN.{length};
-ghost use Rattle.frame.specs.Frame.{lab, dataPlace};
+ghost use Rattle.octets.specs.Numbers.{changedBy};
+ghost use Rattle.frame.specs.Frame.{lab, judged, dataOf};
 ghost use Rattle.frame.specs.declared.End.the-variants as ends;
 ghost use Rattle.split.specs.Split.{isSplit};
 ghost use Rattle.store.specs.Layout.{narrow};
-ghost use Rattle.store.specs.Check.{storeNumber};
-ghost use Rattle.unit.specs.Call.{onData, reactionTo, withPhase, withRate, stateAfter, unitResult, unitOut};
-ghost use Rattle.unit.specs.Sent.{placeSent, numberBehind};
+ghost use Rattle.store.specs.Read.{lookupBoth};
+ghost use Rattle.unit.specs.State.{nameSent, possibleAt};
+ghost use Rattle.unit.specs.Call.{nameAsked, onData, reactionAt, withPhase, withRate, stateAfter, numberBefore, unitResult, unitOut};
 
 // The shortest reply buffer: the longest frame fits in it.
 pub const REPLY_ROOM: usize = 260;
 
-// The refusals behind 5, in order; `heard` is the frame's number.
-fn number(state: UnitState, sent: Place, room: usize, heard: u8) -> u8
+// The refusals before the frame's own, in order. `broken` is the number of the store.
+fn number_before(broken: u8, state: UnitState, sent: Place, reply_len: usize) -> u8
     requires { ⌜ sent .len ≤ 60000 ⌝ }
-    ensures { λ r. ⌜ r ≡ numberBehind state sent room heard ⌝ }
+    ensures { λ r. ⌜ r ≡ numberBefore broken (possibleAt sent state) «reply_len» ⌝ }
 {
+    if broken != 0 {
+        return broken;
+    }
     if !crate::state::possible_at(state, sent) {
         return OUT_OF_TURN;
     }
-    if room < REPLY_ROOM {
+    if reply_len < REPLY_ROOM {
         return BUFFER_SHORT;
     }
-    heard
+    0
 }
 
-// The service by its SID. `sent` is the place of the answer that is being sent, `store` was checked before.
-fn on_data(state: UnitState, store: &[u8], sent: Place, data: &[u8]) -> Reaction
-    requires { ⌜ storeNumber narrow (now store) ≡ 0 ⌝ }
-    requires { ⌜ sent ≡ placeSent (now store) (state .phase) ⌝ }
-    ensures { λ r. ⌜ r ≡ onData (now (store .entry)) state (now («data» .entry)) ⌝ }
+// The service by its SID. `sent` and `asked` are the places of the answer that is being sent and of the one that is asked for.
+fn on_data(state: UnitState, sent: Place, asked: Place, data: &[u8]) -> Reaction
+    requires { ⌜ sent .len ≤ 60000 ⌝ }
+    ensures { λ r. ⌜ r ≡ onData sent asked state (now («data» .entry)) ⌝ }
 {
     let phase = state.phase;
     let sid = octets::big_endian::byte_at(data, 0);
     if sid == TRANSFER_DATA {
-        return crate::transfer::on_transfer(state.kind, phase, store, data);
+        return crate::transfer::on_transfer(state.kind, phase, asked, data);
     }
     if sid == ACKNOWLEDGE {
         return crate::transfer::on_acknowledge(phase, sent, data);
@@ -79,13 +83,12 @@ fn on_data(state: UnitState, store: &[u8], sent: Place, data: &[u8]) -> Reaction
     Reaction::Negative(sid, SERVICE_UNKNOWN)
 }
 
-// What a good frame asks for, whose data lies at `heard`. Closed, only the start of communication is heard.
-fn reaction_to(state: UnitState, store: &[u8], sent: Place, frame: &[u8], heard: Place) -> Reaction
-    requires { ⌜ storeNumber narrow (now store) ≡ 0 ⌝ }
-    requires { ⌜ sent ≡ placeSent (now store) (state .phase) ⌝ }
-    requires { ⌜ heard ≡ dataPlace lab ends.Unit (now frame) ⌝ }
-    requires { ⌜ heard .number ≡ 0 ⌝ }
-    ensures { λ r. ⌜ r ≡ reactionTo lab (now (store .entry)) state (now (frame .entry)) ⌝ }
+// What a good frame asks for, whose data this is. Closed, only the start of communication is heard.
+fn on_good(state: UnitState, sent: Place, asked: Place, frame: &[u8], data: &[u8]) -> Reaction
+    requires { ⌜ sent .len ≤ 60000 ⌝ }
+    requires { ⌜ judged lab ends.Unit (now frame) ≡ 0 ⌝ }
+    requires { ⌜ now «data» ≡ dataOf lab ends.Unit (now frame) ⌝ }
+    ensures { λ r. ⌜ r ≡ reactionAt lab sent asked state (now (frame .entry)) ⌝ }
 {
     let phase = state.phase;
     if octets::buffer::same(frame, &START) {
@@ -94,7 +97,27 @@ fn reaction_to(state: UnitState, store: &[u8], sent: Place, frame: &[u8], heard:
     if crate::state::is_closed(phase) {
         return Reaction::Ignored;
     }
-    on_data(state, store, sent, octets::buffer::part(frame, heard))
+    on_data(state, sent, asked, data)
+}
+
+// What a frame with this number and data asks for. One that the frame rules refuse meets silence and changes nothing.
+fn reaction_to(
+    state: UnitState,
+    sent: Place,
+    asked: Place,
+    frame: &[u8],
+    data: &[u8],
+    number: u8,
+) -> Reaction
+    requires { ⌜ sent .len ≤ 60000 ⌝ }
+    requires { ⌜ number ≡ judged lab ends.Unit (now frame) ⌝ }
+    requires { ⌜ now «data» ≡ dataOf lab ends.Unit (now frame) ⌝ }
+    ensures { λ r. ⌜ r ≡ changedBy number (reactionAt lab sent asked state (now (frame .entry))) Reaction.Ignored ⌝ }
+{
+    if number != 0 {
+        return Reaction::Ignored;
+    }
+    on_good(state, sent, asked, frame, data)
 }
 
 fn with_rate(state: UnitState, rate: u8, pending: u8, phase: Phase) -> UnitState
@@ -147,36 +170,54 @@ pub(crate) fn state_after(state: UnitState, reaction: Reaction) -> UnitState
     }
 }
 
+// The call behind its two lookups: `found` has the places of the answer that is being sent and of the one that the data asks for.
+fn answer(
+    state: UnitState,
+    store: &[u8],
+    found: TwoPlaces,
+    frame: &[u8],
+    data: &[u8],
+    number: u8,
+    reply: &mut [u8],
+) -> UnitReply
+    requires { ⌜ found ≡ lookupBoth narrow (nameSent (state .phase)) (nameAsked (now «data»)) (now store) ⌝ }
+    requires { ⌜ number ≡ judged lab ends.Unit (now frame) ⌝ }
+    requires { ⌜ now «data» ≡ dataOf lab ends.Unit (now frame) ⌝ }
+    ensures { λ r. ⌜ r ≡ unitResult lab (now (store .entry)) (length (now (reply .entry))) state (now (frame .entry)) ⌝ }
+    ensures { λ _. ⌜ now (reply .exit) ≡ unitOut lab (now (store .entry)) state (now (frame .entry)) (now (reply .entry)) ⌝ }
+{
+    let sent = found.first;
+    let asked = found.second;
+    let refused = number_before(found.number, state, sent, reply.len());
+    if refused != 0 {
+        return UnitReply {
+            number: refused,
+            state,
+            len: 0,
+        };
+    }
+    let reaction = reaction_to(state, sent, asked, frame, data, number);
+    let len = crate::reply::write_reply(reaction, store, reply);
+    UnitReply {
+        number,
+        state: state_after(state, reaction),
+        len,
+    }
+}
+
 // One frame at the unit. Refused by 5, 11, 4 and the frame's number, in this order; then nothing changes.
-// Else the next state, and the reply at the front of `reply`. The store is checked once and searched at most twice.
+// Else the next state, and the reply at the front of `reply`. The store is checked once for both lookups.
 pub fn step(state: UnitState, store: &[u8], frame: &[u8], reply: &mut [u8]) -> UnitReply
     ensures { λ r. ⌜ r ≡ unitResult lab (now (store .entry)) (length (now (reply .entry))) state (now (frame .entry)) ⌝ }
     ensures { λ _. ⌜ now (reply .exit) ≡ unitOut lab (now (store .entry)) state (now (frame .entry)) (now (reply .entry)) ⌝ }
 {
-    let broken = store::check::check(store);
-    if broken != 0 {
-        return UnitReply {
-            number: broken,
-            state,
-            len: 0,
-        };
-    }
     let phase = state.phase;
-    let sent = crate::state::place_sent(phase, store);
     let heard = frame::check::locate(frame, End::Unit);
-    let number = number(state, sent, reply.len(), heard.number);
-    if number != 0 {
-        return UnitReply {
-            number,
-            state,
-            len: 0,
-        };
-    }
-    let reaction = reaction_to(state, store, sent, frame, heard);
-    let len = crate::reply::write_reply(reaction, store, reply);
-    UnitReply {
-        number: 0,
-        state: state_after(state, reaction),
-        len,
-    }
+    let data = octets::buffer::part(frame, heard);
+    let found = store::read::locate_both(
+        store,
+        crate::state::name_sent(phase),
+        crate::transfer::name_asked(data),
+    );
+    answer(state, store, found, frame, data, heard.number, reply)
 }

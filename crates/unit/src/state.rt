@@ -1,16 +1,14 @@
 // The unit's state: fresh, possible, and what the phases mean.
 use crate::Phase;
 use crate::UnitState;
+use catalog::AnswerName;
+use catalog::NO_ANSWER;
 use octets::Place;
-use octets::numbers::NOT_HELD;
 use split::SubMessage;
 ghost use mathlib.Core.Path.{_≡_};
 ghost use Prim.Native.Nat.{_-_, _≤_};
 ghost use Rattle.split.specs.Split.{countOf};
-ghost use Rattle.store.specs.Layout.{narrow};
-ghost use Rattle.store.specs.Check.{storeNumber};
-ghost use Rattle.unit.specs.State.{freshUnit, isClosed, inSession, isGranted, sendable, possible};
-ghost use Rattle.unit.specs.Sent.{placeSent, phasePossibleAt, possibleAt};
+ghost use Rattle.unit.specs.State.{freshUnit, isClosed, inSession, isGranted, nameSent, sendable, phasePossible, possibleAt, possible};
 
 // A unit of this kind that was just switched on.
 pub fn fresh(kind: u8) -> UnitState
@@ -93,7 +91,7 @@ fn sendable(place: Place, last: SubMessage) -> bool
 
 fn phase_possible(phase: Phase, sent: Place) -> bool
     requires { ⌜ sent .len ≤ 60000 ⌝ }
-    ensures { λ r. ⌜ r ≡ phasePossibleAt phase sent ⌝ }
+    ensures { λ r. ⌜ r ≡ phasePossible sent phase ⌝ }
 {
     match phase {
         Phase::Closed => true,
@@ -107,7 +105,7 @@ fn phase_possible(phase: Phase, sent: Place) -> bool
 // Whether the state is possible, from the place of the answer that is being sent.
 pub(crate) fn possible_at(state: UnitState, sent: Place) -> bool
     requires { ⌜ sent .len ≤ 60000 ⌝ }
-    ensures { λ r. ⌜ r ≡ possibleAt state sent ⌝ }
+    ensures { λ r. ⌜ r ≡ possibleAt sent state ⌝ }
 {
     let kind = state.kind;
     let rate = state.rate;
@@ -116,22 +114,16 @@ pub(crate) fn possible_at(state: UnitState, sent: Place) -> bool
     (kind < 3) & (((1 <= rate) & (rate <= 5)) & ((pending <= 5) & phase_possible(phase, sent)))
 }
 
-// Where the answer that is being sent lies in a store that was checked before.
-pub(crate) fn place_sent(phase: Phase, store: &[u8]) -> Place
-    requires { ⌜ storeNumber narrow (now store) ≡ 0 ⌝ }
-    ensures { λ r. ⌜ r ≡ placeSent (now (store .entry)) phase ⌝ }
+// The name of the answer that is being sent.
+pub(crate) fn name_sent(phase: Phase) -> AnswerName
+    ensures { λ r. ⌜ r ≡ nameSent phase ⌝ }
 {
-    let nowhere = Place {
-        number: NOT_HELD,
-        start: 0,
-        len: 0,
-    };
     match phase {
-        Phase::Closed => nowhere,
-        Phase::Started => nowhere,
-        Phase::Session => nowhere,
-        Phase::Granted => nowhere,
-        Phase::Sending(name, _) => store::read::find(store, name),
+        Phase::Closed => NO_ANSWER,
+        Phase::Started => NO_ANSWER,
+        Phase::Session => NO_ANSWER,
+        Phase::Granted => NO_ANSWER,
+        Phase::Sending(name, _) => name,
     }
 }
 
@@ -140,16 +132,6 @@ pub fn possible(state: UnitState, store: &[u8]) -> bool
     ensures { λ r. ⌜ r ≡ possible (now (store .entry)) state ⌝ }
 {
     let phase = state.phase;
-    let number = store::check::check(store);
-    if number != 0 {
-        return possible_at(
-            state,
-            Place {
-                number,
-                start: 0,
-                len: 0,
-            },
-        );
-    }
-    possible_at(state, place_sent(phase, store))
+    let sent = store::read::locate(store, name_sent(phase));
+    possible_at(state, sent)
 }

@@ -9,6 +9,7 @@ use crate::wire::OUT_OF_RANGE;
 use crate::wire::SUB_FUNCTION_UNKNOWN;
 use crate::wire::TRANSFER_DATA;
 use catalog::AnswerName;
+use catalog::NO_ANSWER;
 use octets::Place;
 use split::AckCode;
 use split::SubMessage;
@@ -20,10 +21,8 @@ ghost use Rattle.octets.specs.Order.{unless};
 ghost use Rattle.catalog.specs.Table.{isActivities};
 ghost use Rattle.split.specs.Split.{countOf};
 ghost use Rattle.split.specs.Codes.{sub};
-ghost use Rattle.store.specs.Layout.{narrow};
-ghost use Rattle.store.specs.Check.{storeNumber};
-ghost use Rattle.unit.specs.Services.{requestName, answerFrom, onTransfer, onCode};
-ghost use Rattle.unit.specs.Sent.{onSendingAt, onAcknowledgeAt};
+ghost use Rattle.unit.specs.Services.{requestName, answerFrom, onTransfer, onCode, onSending, onAcknowledge};
+ghost use Rattle.unit.specs.Call.{nameAsked};
 
 // How long a request for this TRTP is: activities carry a day.
 fn request_length(trtp: u8) -> usize
@@ -55,10 +54,20 @@ fn answer_from(name: AnswerName, number: SubMessage, place: Place) -> Reaction
     Reaction::AnswerSent(name, number, place)
 }
 
-// Transfer data: 36 TRTP (day), from a store that was checked before.
-pub(crate) fn on_transfer(kind: u8, phase: Phase, store: &[u8], data: &[u8]) -> Reaction
-    requires { ⌜ storeNumber narrow (now store) ≡ 0 ⌝ }
-    ensures { λ r. ⌜ r ≡ onTransfer kind phase (now (store .entry)) (now («data» .entry)) ⌝ }
+// The answer that a frame's data asks for.
+pub(crate) fn name_asked(data: &[u8]) -> AnswerName
+    ensures { λ r. ⌜ r ≡ nameAsked (now («data» .entry)) ⌝ }
+{
+    if octets::big_endian::byte_at(data, 0) == TRANSFER_DATA {
+        request_name(data)
+    } else {
+        NO_ANSWER
+    }
+}
+
+// Transfer data: 36 TRTP (day). `asked` is the place of the answer that it names.
+pub(crate) fn on_transfer(kind: u8, phase: Phase, asked: Place, data: &[u8]) -> Reaction
+    ensures { λ r. ⌜ r ≡ onTransfer kind phase asked (now («data» .entry)) ⌝ }
 {
     if data.len() < 2 {
         return Reaction::Negative(TRANSFER_DATA, LENGTH_WRONG);
@@ -77,7 +86,7 @@ pub(crate) fn on_transfer(kind: u8, phase: Phase, store: &[u8], data: &[u8]) -> 
     if !crate::state::is_granted(phase) {
         return Reaction::Negative(TRANSFER_DATA, CONDITIONS_WRONG);
     }
-    answer_from(name, SubMessage(1), store::read::find(store, name))
+    answer_from(name, SubMessage(1), asked)
 }
 
 // The sub message behind the last one, or 12 if there is none.
@@ -95,7 +104,7 @@ fn send_next(name: AnswerName, last: SubMessage, place: Place) -> Reaction
 // A code while an answer is being sent (DDP_017).
 fn on_code(name: AnswerName, last: SubMessage, place: Place, code: AckCode) -> Reaction
     requires { ⌜ place .len ≤ 60000 ⌝ }
-    ensures { λ r. ⌜ r ≡ onCode name last place (code .0) ⌝ }
+    ensures { λ r. ⌜ r ≡ onCode name last place code ⌝ }
 {
     let c = code.0;
     if c == split::codes::repeat(last).0 {
@@ -112,7 +121,7 @@ fn on_code(name: AnswerName, last: SubMessage, place: Place, code: AckCode) -> R
 
 fn on_sending(phase: Phase, sent: Place, code: AckCode) -> Reaction
     requires { ⌜ sent .len ≤ 60000 ⌝ }
-    ensures { λ r. ⌜ r ≡ onSendingAt phase sent (code .0) ⌝ }
+    ensures { λ r. ⌜ r ≡ onSending phase sent code ⌝ }
 {
     let refused = Reaction::Negative(ACKNOWLEDGE, CONDITIONS_WRONG);
     match phase {
@@ -127,7 +136,7 @@ fn on_sending(phase: Phase, sent: Place, code: AckCode) -> Reaction
 // Acknowledge: 83 76 and a code. `sent` is the place of the answer that is being sent.
 pub(crate) fn on_acknowledge(phase: Phase, sent: Place, data: &[u8]) -> Reaction
     requires { ⌜ sent .len ≤ 60000 ⌝ }
-    ensures { λ r. ⌜ r ≡ onAcknowledgeAt phase sent (now («data» .entry)) ⌝ }
+    ensures { λ r. ⌜ r ≡ onAcknowledge phase sent (now («data» .entry)) ⌝ }
 {
     if data.len() != 4 {
         return Reaction::Negative(ACKNOWLEDGE, LENGTH_WRONG);

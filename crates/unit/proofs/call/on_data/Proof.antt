@@ -1,15 +1,13 @@
 -- The SID picks the service.
 use Rattle.octets.proofs.Tests.{cond-t, cond-f}
 use Rattle.unit.specs.Call.{onData}
-use Rattle.unit.proofs.StateLaws.{sent-most}
-use Rattle.unit.proofs.SentLaws.{acknowledge-sent}
 use Rattle.unit.proofs.CallLaws.{sid-is, sid-not}
 use borrow.Author.Needs.{needs}
 use Rattle.unit.proofs.call.on_data.Statement.{statement}
 use Rattle.unit.proofs.call.on_data.Tie as tie
 
-ruleset all = (cond-t, cond-f, sid-is, sid-not, acknowledge-sent)
+ruleset all = (cond-t, cond-f, sid-is, sid-not)
 
 pub on-data-spec : {M : Type 1} → statement M
 unfolding onData
-on-data-spec = tie.close (tie.spec (λ c κs. search needs) (λ c κs. search needs) (λ c. search all depth 12) (λ c κs. search (needs, sent-most)) (λ c. search all depth 12) (λ c κs. search needs) (λ c. search all depth 12) (λ c κs. search needs) (λ c. search all depth 12) (λ c κs. search needs) (λ c. search all depth 12) (λ c κs. search needs) (λ c. search all depth 12) (λ c κs. search needs) (λ c. search all depth 12) (λ c. search all depth 12))
+on-data-spec = tie.close (tie.spec (λ c κs. search needs) (λ c κs. search needs) (λ c. search all depth 12) (λ c κs. search needs) (λ c. search all depth 12) (λ c κs. search needs) (λ c. search all depth 12) (λ c κs. search needs) (λ c. search all depth 12) (λ c κs. search needs) (λ c. search all depth 12) (λ c κs. search needs) (λ c. search all depth 12) (λ c κs. search needs) (λ c. search all depth 12) (λ c. search all depth 12))

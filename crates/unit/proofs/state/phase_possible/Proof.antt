@@ -1,10 +1,10 @@
 -- One case for each phase.
-use Rattle.unit.specs.Sent.{phasePossibleAt}
+use Rattle.unit.specs.State.{phasePossible}
 use Rattle.unit.proofs.StateLaws.{phase-is}
 use borrow.Author.Needs.{needs}
 use Rattle.unit.proofs.state.phase_possible.Statement.{statement}
 use Rattle.unit.proofs.state.phase_possible.Tie as tie
 
 pub phase-possible-spec : {M : Type 1} → statement M
-unfolding phasePossibleAt
+unfolding phasePossible
 phase-possible-spec = tie.close (tie.spec (λ c. search needs) (λ c. search needs) (λ c. search needs) (λ c. search needs) (λ c. search needs) (λ c κs. search needs) (λ c. search phase-is) (λ c. search phase-is) (λ c. search phase-is) (λ c. search phase-is) (λ c. search phase-is))

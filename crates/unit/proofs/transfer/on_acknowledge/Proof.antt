@@ -1,7 +1,7 @@
 -- Each return is the first check that fails.
 use Rattle.octets.proofs.Tests.{cond-t, cond-f}
 use borrow.Author.Tests.{eq-eqb, ne-eqb}
-use Rattle.unit.specs.Sent.{onAcknowledgeAt}
+use Rattle.unit.specs.Services.{onAcknowledge}
 use Rattle.unit.proofs.ServiceLaws.{code-read}
 use borrow.Author.Needs.{needs}
 use Rattle.unit.proofs.transfer.on_acknowledge.Statement.{statement}
@@ -10,5 +10,5 @@ use Rattle.unit.proofs.transfer.on_acknowledge.Tie as tie
 ruleset all = (cond-t, cond-f, eq-eqb, ne-eqb, code-read)
 
 pub on-acknowledge-spec : {M : Type 1} → statement M
-unfolding onAcknowledgeAt
+unfolding onAcknowledge
 on-acknowledge-spec = tie.close (tie.spec (λ c. search all depth 9) (λ c. search needs) (λ c. search all depth 9) (λ c. search needs) (λ c. search needs) (λ c κs. search needs) (λ c κs. search needs) (λ c. search all depth 9))

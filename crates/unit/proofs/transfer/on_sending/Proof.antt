@@ -1,10 +1,10 @@
 -- One case for each phase.
-use Rattle.unit.specs.Sent.{onSendingAt}
+use Rattle.unit.specs.Services.{onSending}
 use Rattle.unit.proofs.ServiceLaws.{sending-is}
 use borrow.Author.Needs.{needs}
 use Rattle.unit.proofs.transfer.on_sending.Statement.{statement}
 use Rattle.unit.proofs.transfer.on_sending.Tie as tie
 
 pub on-sending-spec : {M : Type 1} → statement M
-unfolding onSendingAt
+unfolding onSending
 on-sending-spec = tie.close (tie.spec (λ c. search needs) (λ c. search needs) (λ c. search needs) (λ c. search needs) (λ c. search needs) (λ c κs. search needs) (λ c. search sending-is) (λ c. search sending-is) (λ c. search sending-is) (λ c. search sending-is) (λ c. search sending-is))

@@ -7,4 +7,4 @@ use Rattle.unit.proofs.transfer.on_transfer.Tie as tie
 ruleset all = (needs, transfer-short, transfer-unknown, transfer-long, transfer-day, transfer-turn, transfer-answer)
 
 pub on-transfer-spec : {M : Type 1} → statement M
-on-transfer-spec = tie.close (tie.spec (λ c. search all) (λ c. search all) (λ c κs. search all) (λ c. search all) (λ c κs. search all) (λ c. search all) (λ c κs. search all) (λ c κs. search all) (λ c. search all) (λ c κs. search all) (λ c. search all) (λ c κs. search all) (λ c κs. search all) (λ c. search all))
+on-transfer-spec = tie.close (tie.spec (λ c. search all) (λ c. search all) (λ c κs. search all) (λ c. search all) (λ c κs. search all) (λ c. search all) (λ c κs. search all) (λ c κs. search all) (λ c. search all) (λ c κs. search all) (λ c. search all) (λ c κs. search all) (λ c. search all))
