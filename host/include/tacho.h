@@ -139,7 +139,7 @@ tacho_written tacho_tool_arrived(uint8_t *state, size_t state_len, const uint8_t
                                  size_t room_len, uint8_t *out, size_t out_len);
 
 /* The wait for a frame ended: the frame is sent again, or the request ends. Refused by 11, 4. */
-tacho_written tacho_tool_wait_ended(uint8_t *state, size_t state_len, uint8_t *room, size_t room_len, uint8_t *out, size_t out_len);
+tacho_written tacho_tool_wait_ended(uint8_t *state, size_t state_len, const uint8_t *room, size_t room_len, uint8_t *out, size_t out_len);
 
 #ifdef __cplusplus
 }

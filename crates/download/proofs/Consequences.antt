@@ -12,7 +12,7 @@ use Rattle.split.specs.Split.{isSplit, subField}
 use Rattle.split.proofs.Theorems.{sub-reads-back}
 use Rattle.unit.specs.declared.Phase.{Phase}
 use Rattle.unit.specs.declared.Phase.the-variants.{Closed, Started, Session, Granted, Sending}
-use Rattle.unit.specs.State.{phasePossible}
+use Rattle.unit.specs.State.{placeSent, phasePossible}
 use Rattle.tool.specs.declared.Outcome.{Outcome}
 use Rattle.tool.specs.declared.Outcome.the-variants.{NoRoom, Refused}
 use Rattle.line.specs.Line.{toolEnd, Event}
@@ -69,7 +69,7 @@ module _ (a : Addresses) (g : Premises) (es : List (Event (cableEnds a))) (o : A
 
 -- A store that stays as it is meets the premise at every call, in each state that the unit comes to.
 module _ (g : Premises) where
-  at-begin : (p : Phase) → phasePossible (g .store) p ≡ true → SendingUnchanged p (g .store) (g .store)
+  at-begin : (p : Phase) → phasePossible (placeSent (g .store) p) p ≡ true → SendingUnchanged p (g .store) (g .store)
   at-begin Closed h = tt
   at-begin Started h = tt
   at-begin Session h = tt

@@ -9,9 +9,9 @@ use Rattle.split.specs.Join.{isAnswer, receivedAs}
 use Rattle.store.specs.Layout.{nameAt}
 use Rattle.store.specs.Check.{headerFits, countsFit, placeRight, placesRight, answerRight, answersRight, namedFrom, namesDiffer, storeNumber}
 use Rattle.store.specs.Read.{positionFrom, lookupNumber, lookupPlace, lookupPart}
-use Rattle.unit.specs.State.{sendable, phasePossible, possible}
+use Rattle.unit.specs.State.{sendable, phasePossible, possibleAt, possible}
 use Rattle.unit.specs.Services.{requestName, answerFrom, onTransfer, onCode, onSending, onAcknowledge}
-use Rattle.unit.specs.Call.{onData, reactionTo, stateAfter as unitAfter, replyData, replyTo, unitNumber, unitState, unitReply, unitResult}
+use Rattle.unit.specs.Call.{onData, reactionAt, reactionTo, stateAfter as unitAfter, replyData, replyTo, numberBefore, unitNumber, unitState, unitReply, unitResult}
 use Rattle.tool.specs.State.{heldRight, transferPossible, possible as toolPossible}
 use Rattle.tool.specs.Sent.{transferRequest, acknowledgement, transferData, frameSent, sidSent}
 use Rattle.tool.specs.Event.{newBytes, fits, meaningOf, transferMeaning, isRefusal, refusalMeaning, dataMeaning, arrivalMeaning, arrivalBytes, afterFailedWait, stateAfter, sentAfter, roomAfter}
@@ -24,5 +24,5 @@ lookups = tt
 
 -- calls of both ends
 unfoldable pub calls : Unit {0}
-unfolding lookups closed frameOf countRight startRight addressed checksumRight judged dataPlace dataOf countOf carries subField subFrame possible sendable phasePossible requestName answerFrom onTransfer onCode onSending onAcknowledge onData reactionTo unitAfter replyData replyTo unitNumber unitState unitReply unitResult transferRequest acknowledgement transferData frameSent sidSent heldRight transferPossible toolPossible requestNumber beginNumber beginState beginSent beginResult isAnswer receivedAs newBytes fits meaningOf transferMeaning isRefusal refusalMeaning dataMeaning arrivalMeaning arrivalBytes afterFailedWait stateAfter sentAfter roomAfter eventNumber eventState eventSent eventRoom eventResult front put
+unfolding lookups closed frameOf countRight startRight addressed checksumRight judged dataPlace dataOf countOf carries subField subFrame possible possibleAt sendable phasePossible requestName answerFrom onTransfer onCode onSending onAcknowledge onData reactionAt reactionTo unitAfter replyData replyTo numberBefore unitNumber unitState unitReply unitResult transferRequest acknowledgement transferData frameSent sidSent heldRight transferPossible toolPossible requestNumber beginNumber beginState beginSent beginResult isAnswer receivedAs newBytes fits meaningOf transferMeaning isRefusal refusalMeaning dataMeaning arrivalMeaning arrivalBytes afterFailedWait stateAfter sentAfter roomAfter eventNumber eventState eventSent eventRoom eventResult front put
 calls = tt

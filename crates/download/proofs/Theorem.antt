@@ -85,10 +85,10 @@ waiting-both books.noAnswer z = never (cc)
 
 module _ (a : Addresses) (g : Premises) where
   -- what the tool holds in its room
-  record InRoom (t : ToolRoom) (p : ℕ) : Type 0 where
-    heldLength : t .state .held ≡ length (heldWith g p)
-    held : take (t .state .held) (t .room) ≡ heldWith g p
-    behind : drop (t .state .held) (t .room) ≡ drop (t .state .held) (g .room)
+  pub record InRoom (t : ToolRoom) (p : ℕ) : Type 0 where
+    pub heldLength : t .state .held ≡ length (heldWith g p)
+    pub held : take (t .state .held) (t .room) ≡ heldWith g p
+    pub behind : drop (t .state .held) (t .room) ≡ drop (t .state .held) (g .room)
 
   in-room : (t : ToolRoom) (p : ℕ) → t .state .held ≡ length (heldWith g p) → t .room ≡ front (heldWith g p) (g .room) → InRoom t p
   unfolding front
@@ -100,12 +100,12 @@ module _ (a : Addresses) (g : Premises) where
       }
 
   -- the tool at each outcome of the book
-  record ToolAt (r : Run (cableEnds a)) : Type 0 where
-    outcome : r .system .tool .state .outcome ≡ outcomeOf (r .book .outcome)
-    room : InRoom (r .system .tool) (r .book .taken)
-    sendings : r .putOutBefore + r .system .tool .state .sendings ≡ r .system .putOut
+  pub record ToolAt (r : Run (cableEnds a)) : Type 0 where
+    pub outcome : r .system .tool .state .outcome ≡ outcomeOf (r .book .outcome)
+    pub room : InRoom (r .system .tool) (r .book .taken)
+    pub sendings : r .putOutBefore + r .system .tool .state .sendings ≡ r .system .putOut
 
-  tool-at : (r : Run (cableEnds a)) (o : books.Outcome) → r .book .outcome ≡ o → laws.ToolIs (cableEnds a) (transfer a g) (facts a g) (r .system .tool) (r .book .taken) (r .book .failed) (r .system .putOut) (r .putOutBefore) o
+  pub tool-at : (r : Run (cableEnds a)) (o : books.Outcome) → r .book .outcome ≡ o → laws.ToolIs (cableEnds a) (transfer a g) (facts a g) (r .system .tool) (r .book .taken) (r .book .failed) (r .system .putOut) (r .putOutBefore) o
       → AfterAllowed (cableEnds a) (transfer a g) r → ToolAt r
   unfolding facts
   tool-at r books.waiting e t w =
@@ -128,7 +128,7 @@ module _ (a : Addresses) (g : Premises) where
         sendings = rw t (sym (w .sentNoAnswer e));
       }
 
-  agrees-at : (r : Run (cableEnds a)) → ToolAt r → AfterAllowed (cableEnds a) (transfer a g) r → Agrees a g r
+  pub agrees-at : (r : Run (cableEnds a)) → ToolAt r → AfterAllowed (cableEnds a) (transfer a g) r → Agrees a g r
   agrees-at r t w =
       let o : books.Outcome = r .book .outcome in
       let d : r .system .tool .state .outcome ≡ Done → o ≡ books.done = λ z. done-both o .0 (sym (t .outcome) ∙ z) in
@@ -145,7 +145,7 @@ module _ (a : Addresses) (g : Premises) where
         sendings = t .sendings;
       }
 
-  clean-at : (r : Run (cableEnds a)) → Agrees a g r → AfterClean (cableEnds a) (transfer a g) r → AgreesClean a g r
+  pub clean-at : (r : Run (cableEnds a)) → Agrees a g r → AfterClean (cableEnds a) (transfer a g) r → AgreesClean a g r
   clean-at r k w =
       let o : books.Outcome = r .book .outcome in
       record {

@@ -133,7 +133,7 @@ module _ (g : Premises) where
   noAnswerTool p = toolWith NoAnswer 3 (suc p) p
 
   -- the held bytes fit
-  within : (p : ℕ) → p ≤ countOf (length (answerData g)) → length (heldWith g p) ≤ length (answerData g) + 2
+  pub within : (p : ℕ) → p ≤ countOf (length (answerData g)) → length (heldWith g p) ≤ length (answerData g) + 2
   within p h =
       byTest (ltb p (countOf (length (answerData g))))
       (λ e. omega (arith, frames.held-within g p (ltb-true _ _ e), frames.long g))

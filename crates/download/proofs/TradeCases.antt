@@ -33,7 +33,7 @@ use Rattle.download.specs.TradeCases.{Called, Asked, lens, store12, Trad
 use Rattle.download.proofs.Runs.{lookups, calls}
 use Rattle.download.proofs.StoreFacts.{held-place}
 use Rattle.download.proofs.FrameFacts.{asked-some, asked-most, asked-good, count-most}
-use Rattle.download.proofs.ServiceFacts.{ranges, sending-held, granted-open, request-first, transfer-asked, past-last, not-refused, heard}
+use Rattle.download.proofs.ServiceFacts.{ranges, sending-held, granted-open, request-first, asked-first, transfer-asked, past-last, not-refused, heard}
 
 -- what a unit replies where nothing is refused
 module _ (store : List ℕ) (u : UnitState) (room : ℕ) (c : Called store u room) where
@@ -112,9 +112,9 @@ module _ (store : List ℕ) (u : UnitState) (room : ℕ) (c : Called store u roo
   transfer-reply name r q o e =
       reply store u room c (frameOf lab ends.Unit (transferRequest name)) r (asked-good lab name 1)
       (heard lab store u (transferRequest name) (asked-some name 1) (asked-most name 1) o
-      ∙ request-first store u name
-      ∙ transfer-asked (u .kind) (u .phase) store name (q .known) (q .named) (q .fourBytes)
-      ∙ e)
+      ∙ request-first _ _ u name
+      ∙ transfer-asked (u .kind) (u .phase) _ name (q .known) (q .named) (q .fourBytes)
+      ∙ rw (asked-first name (q .named) (q .fourBytes)) e)
 
   w4 : (name : AnswerName) → Asked u name → isGranted (u .phase) ≡ true → lookupNumber narrow name store ≡ 6
       → unitReply lab store room u (frameOf lab ends.Unit (transferRequest name)) ≡ 0x80 ∷ 0xF0 ∷ 0xEE ∷ 0x03 ∷ 0x7F ∷ 0x36 ∷ 0xFA ∷ 0x10 ∷ []
@@ -140,7 +140,7 @@ module _ (store : List ℕ) (u : UnitState) (room : ℕ) (c : Called store u roo
       let l : suc last < 65536 = omega (arith, count-most (length (drop 2 d)) m) in
       let a : List ℕ = acknowledgement (acknowledgeOf (sub last)) in
       reply store u room c (frameOf lab ends.Unit a) (Negative 0x83 0x12) (write-then-check lab ends.Unit a (omega arith) (omega arith))
-      (heard lab store u a (omega arith) (omega arith) (rw p) ∙ rw p (past-last store name last l (omega (arith, ap countOf n))))
+      (heard lab store u a (omega arith) (omega arith) (rw p) ∙ rw p (past-last (lookupPlace narrow name store) name last l (omega (arith, ap countOf n))))
 
 pub trade-cases : TradeCases
 trade-cases =

@@ -25,9 +25,9 @@ use Rattle.unit.specs.declared.Phase.the-variants.{Closed, Started, Session, Gr
 use Rattle.unit.specs.declared.UnitState.{UnitState}
 use Rattle.unit.specs.declared.Reaction.{Reaction}
 use Rattle.unit.specs.declared.Reaction.the-variants.{AnswerSent}
-use Rattle.unit.specs.State.{isGranted, sendable, phasePossible, possible}
+use Rattle.unit.specs.State.{isGranted, placeSent, sendable, phasePossible, possibleAt, possible}
 use Rattle.unit.specs.Services.{answerFrom, onAcknowledge}
-use Rattle.unit.specs.Call.{onData, reactionTo, withPhase, stateAfter, replyData, replyTo, unitNumber, unitState, unitReply, unitResult}
+use Rattle.unit.specs.Call.{placeAsked, onData, reactionTo, withPhase, stateAfter, replyData, replyTo, numberBefore, unitNumber, unitState, unitReply, unitResult}
 use Rattle.tool.specs.declared.Request.the-variants as requests
 use Rattle.tool.specs.Sent.{acknowledgement, transferData, frameSent}
 use Rattle.tool.specs.Call.{requestNumber, beginNumber}
@@ -37,7 +37,7 @@ use Rattle.download.specs.CableEnds.{UnitGiven, strings, unitCall, refus
 use Rattle.download.specs.Demand.{SendingUnchanged, Premises, CallPremise, answerData, transfer}
 use Rattle.download.proofs.StoreFacts.{Held, held-place, held}
 use Rattle.download.proofs.FrameFacts.{strings-frame, asked-some, asked-most, asked-good, splits, frames-most}
-use Rattle.download.proofs.ServiceFacts.{ranges, sending-held, granted-open, request-first, request-more, transfer-asked, sent-again, sent-next, not-refused, heard}
+use Rattle.download.proofs.ServiceFacts.{ranges, sending-held, granted-open, request-first, request-more, asked-first, transfer-asked, sent-again, sent-next, not-refused, heard}
 
 -- A call
 
@@ -50,11 +50,11 @@ module _ (a : Addresses) (c : UnitGiven) (u : UnitState) where
 
   -- refused with 4, or by the frame rules
   pub called-short : (b : List ℕ) → storeNumber narrow (c .store) ≡ 0 → possible (c .store) u ≡ true → leb 260 (c .reply) ≡ false → unitCall a c u b ≡ silent u
-  unfolding unitResult unitState unitReply unitNumber
+  unfolding unitResult unitState unitReply unitNumber numberBefore
   called-short b s p l = rw (s, p, l)
 
   called-refused : (b : List ℕ) → storeNumber narrow (c .store) ≡ 0 → possible (c .store) u ≡ true → leb 260 (c .reply) ≡ true → eqb (judged a ends.Unit b) 0 ≡ false → unitCall a c u b ≡ silent u
-  unfolding unitResult unitState unitReply unitNumber
+  unfolding unitResult unitState unitReply unitNumber numberBefore
   called-refused b s p l j = rw (s, p, l, j)
 
   -- sub message k of an answer that the store holds
@@ -73,7 +73,7 @@ module _ (a : Addresses) (c : UnitGiven) (u : UnitState) where
 -- The unit's state through the transfer
 
 -- what is sent stays possible where it is unchanged
-sending-possible : (before now : List ℕ) (p : Phase) → SendingUnchanged p before now → phasePossible before p ≡ true → phasePossible now p ≡ true
+sending-possible : (before now : List ℕ) (p : Phase) → SendingUnchanged p before now → phasePossible (placeSent before p) p ≡ true → phasePossible (placeSent now p) p ≡ true
 unfolding phasePossible sendable
 sending-possible before now Closed s h = refl
 sending-possible before now Started s h = refl
@@ -114,7 +114,7 @@ module _ (g : Premises) where
 
   module _ (c : UnitGiven) where
     sent-possible : (k : ℕ) → Held (c .store) (g .name) (g .answer) → suc k ≤ countOf (length (answerData g)) → (b : Bool) → isSplit (length (answerData g)) ≡ b
-        → phasePossible (c .store) (cond b (Sending (g .name) (sub (suc k))) Granted) ≡ true
+        → phasePossible (placeSent (c .store) (cond b (Sending (g .name) (sub (suc k))) Granted)) (cond b (Sending (g .name) (sub (suc k))) Granted) ≡ true
     unfolding phasePossible sendable
     sent-possible k t h false e = refl
     sent-possible k t h true e =
@@ -122,7 +122,7 @@ module _ (g : Premises) where
         rw (t .number, n, e, le-leb 1 (suc k) (omega arith), le-leb (suc k) (countOf (length (answerData g))) h)
 
     possible-after : (n : ℕ) → CallPremise g (unitAfter n) c → n ≤ countOf (length (answerData g)) → possible (c .store) (unitAfter n) ≡ true
-    unfolding possible
+    unfolding possible possibleAt
     possible-after zero o h = rw (sending-possible (g .store) (c .store) (g .unit .phase) (o .sending) (ranges (g .store) (g .unit) (g .possible) .phase)) (rw (ranges (g .store) (g .unit) (g .possible) .phase) at (g .possible))
     possible-after (suc k) o h =
         rw (ranges (g .store) (g .unit) (g .possible) .kind, ranges (g .store) (g .unit) (g .possible) .rate) (sent-possible k (held (c .store) (g .name) (g .answer) (o .this)) h (isSplit (length (answerData g))) refl)
@@ -142,7 +142,7 @@ module _ (g : Premises) where
           byTest (leb 260 (c .reply)) (λ l. called-refused a c (unitAfter n) b whole (possible-after n o h) l (not-true _ r)) (λ l. lacks-room b l)
 
       -- a request at which the answer is sent
-      asked : (k : ℕ) → leb 260 (c .reply) ≡ true → onData (c .store) (unitAfter n) (transferData (g .name) (suc k)) ≡ AnswerSent (g .name) (sub (suc k)) (lookupPlace narrow (g .name) (c .store))
+      asked : (k : ℕ) → leb 260 (c .reply) ≡ true → onData (placeSent (c .store) (unitAfter n .phase)) (placeAsked (c .store) (transferData (g .name) (suc k))) (unitAfter n) (transferData (g .name) (suc k)) ≡ AnswerSent (g .name) (sub (suc k)) (lookupPlace narrow (g .name) (c .store))
           → unitCall a c (unitAfter n) (frameSent a requests.Transfer (g .name) (suc k)) ≡ sends (unitAfter (suc k)) (transfer a g .frame (suc k))
       unfolding frameSent
       asked k l e =
@@ -158,11 +158,11 @@ module _ (g : Premises) where
     answers a n zero o l x y h =
         let t = held (c .store) (g .name) (g .answer) (o .this) in
         asked a n o (omega arith) zero l
-        (request-first (c .store) (unitAfter n) (g .name)
-        ∙ transfer-asked (unitAfter n .kind) (unitAfter n .phase) (c .store) (g .name) (rw (kind-after n) (g .known)) (allowed (g .name) name-allowed .1) (g .fourBytes)
-        ∙ rw (granted-after n, t .number))
+        (request-first _ _ (unitAfter n) (g .name)
+        ∙ transfer-asked (unitAfter n .kind) (unitAfter n .phase) _ (g .name) (rw (kind-after n) (g .known)) (allowed (g .name) name-allowed .1) (g .fourBytes)
+        ∙ rw (asked-first (g .name) (allowed (g .name) name-allowed .1) (g .fourBytes), granted-after n, t .number))
     answers a zero (suc k) o l x y h = absurd (omega arith)
-    answers a (suc n) (suc k) o l x y h = asked a (suc n) o (omega arith) (suc k) l (request-more (c .store) (unitAfter (suc n)) (g .name) k ∙ again)
+    answers a (suc n) (suc k) o l x y h = asked a (suc n) o (omega arith) (suc k) l (request-more _ _ (unitAfter (suc n)) (g .name) k ∙ again)
       where
         t : Held (c .store) (g .name) (g .answer)
         t = held (c .store) (g .name) (g .answer) (o .this)
@@ -173,11 +173,11 @@ module _ (g : Premises) where
         is-split : isSplit (length (answerData g)) ≡ true
         is-split = lt-ltb 252 (length (answerData g)) (splits g (omega arith))
 
-        again : onAcknowledge (unitAfter (suc n) .phase) (c .store) (acknowledgement (acknowledgeOf (sub (suc k)))) ≡ AnswerSent (g .name) (sub (suc (suc k))) (lookupPlace narrow (g .name) (c .store))
+        again : onAcknowledge (unitAfter (suc n) .phase) (placeSent (c .store) (unitAfter (suc n) .phase)) (acknowledgement (acknowledgeOf (sub (suc k)))) ≡ AnswerSent (g .name) (sub (suc (suc k))) (lookupPlace narrow (g .name) (c .store))
         again =
             rw is-split
             (byTest (eqb (suc n) (suc (suc k)))
-            (λ e. rw (eqb-true (suc n) (suc (suc k)) e) (sent-again (c .store) (g .name) (suc k) (omega (arith, frames-most g))))
+            (λ e. rw (eqb-true (suc n) (suc (suc k)) e) (sent-again (lookupPlace narrow (g .name) (c .store)) (g .name) (suc k) (omega (arith, frames-most g))))
             (λ e.
             let z : n ≡ k = omega (arith, eqb-false (suc n) (suc (suc k)) e) in
-            rw z (sent-next (c .store) (g .name) (suc k) (omega (arith, frames-most g)) (rw len h))))
+            rw z (sent-next (lookupPlace narrow (g .name) (c .store)) (g .name) (suc k) (omega (arith, frames-most g)) (rw len h))))

@@ -16,7 +16,7 @@ use Rattle.store.specs.Read.{lookupPart}
 use Rattle.unit.specs.declared.UnitState.{UnitState}
 use Rattle.unit.specs.declared.Phase.{Phase}
 use Rattle.unit.specs.declared.Phase.the-variants.{Granted, Sending}
-use Rattle.unit.specs.State.{sendable, phasePossible, possible}
+use Rattle.unit.specs.State.{sendable, phasePossible, possibleAt, possible}
 use Rattle.tool.specs.declared.Request.the-variants.{Transfer}
 use Rattle.tool.specs.declared.Outcome.the-variants.{Done, NoAnswer}
 use Rattle.tool.specs.State.{freshTool}
@@ -74,11 +74,11 @@ unfolding requestNumber beginNumber
 accepted name e = rw e
 
 possible-granted : possible store (unit Granted) ≡ true
-unfolding possible phasePossible
+unfolding possible possibleAt phasePossible
 possible-granted = refl
 
 possible-sending : possible store (unit (Sending overview (sub 2))) ≡ true
-unfolding lookups countOf possible sendable phasePossible
+unfolding lookups countOf possible possibleAt sendable phasePossible
 possible-sending = refl
 
 known-interface : knownTo 2 0x00 ≡ true

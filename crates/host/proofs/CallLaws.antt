@@ -10,16 +10,17 @@ use Rattle.octets.specs.Order.{orElse}
 use Rattle.octets.specs.Numbers.{changedBy}
 use Rattle.octets.specs.Buffer.{front, copied}
 use Rattle.octets.specs.declared.Written.{Written}
-use Rattle.octets.proofs.OrderLaws.{or-zero}
+use Rattle.octets.proofs.OrderLaws.{or-zero, or-refused}
 use Rattle.octets.proofs.BufferLaws.{copied-fits}
-use Rattle.frame.specs.Frame.{lab}
+use Rattle.frame.specs.declared.End.the-variants as ends
+use Rattle.frame.specs.Frame.{lab, judged}
 use Rattle.catalog.specs.declared.AnswerName.{AnswerName}
 use Rattle.store.specs.Layout.{narrow}
 use Rattle.store.specs.Check.{storeNumber}
 use Rattle.unit.specs.declared.UnitState.{UnitState}
 use Rattle.unit.specs.declared.UnitReply.{UnitReply}
 use Rattle.unit.specs.State as unit-state
-use Rattle.unit.specs.Call.{unitNumber, unitResult, unitOut}
+use Rattle.unit.specs.Call.{numberBefore, unitNumber, unitResult, unitOut}
 use Rattle.tool.specs.declared.Request.{Request}
 use Rattle.tool.specs.declared.Meaning.{Meaning}
 use Rattle.tool.specs.declared.ToolState.{ToolState}
@@ -51,8 +52,9 @@ turn-taken false n before size b state none z = absurd (let e = or-zero before 1
 
 -- bytes that are no state: "5, 11", whatever follows
 pub unit-impossible : (store : List ℕ) (room : ℕ) (b f : List ℕ) → isUnit b ≡ false → unitNumber lab store room (unpackedUnit b) f ≡ orElse (storeNumber narrow store) 11
-unfolding unitNumber unit-state.possible
-unit-impossible store room b f h = rw (← unit-none b noUnit h refl)
+unfolding unitNumber numberBefore unit-state.possible unit-state.possibleAt
+unit-impossible store room b f h =
+    rw (← unit-none b noUnit h refl) (or-refused (storeNumber narrow store) 11 (judged lab ends.Unit f) refl)
 
 pub step-state : (step : UnitReply) (u : UnitState) (store : List ℕ) (room : ℕ) (b f : List ℕ) → u ≡ unpackedUnit b → step ≡ unitResult lab store room u f → step .number ≡ 0 → length b ≡ 11
 unfolding unitResult

@@ -124,6 +124,11 @@ pub tool-is : (t : ToolState) → isTool (packedTool t) ≡ true
 unfolding isTool packedTool
 tool-is t = rw (request-least (t .request), outcome-least (t .outcome))
 
+-- the outcome comes back whatever the numbers are
+pub outcome-kept : (t : ToolState) → unpackedTool (packedTool t) .outcome ≡ t .outcome
+unfolding unpackedTool packedTool
+outcome-kept t = rw (tool-is t, outcome-back (t .outcome))
+
 pub tool-back : (t : ToolState) → t .name .day < 4294967296 → t .expected .0 < 65536 → t .held < 4294967296 → unpackedTool (packedTool t) ≡ t
 unfolding unpackedTool packedTool numberAt
 tool-back t d e h =

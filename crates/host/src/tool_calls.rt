@@ -80,16 +80,11 @@ pub extern "C" fn tacho_tool_arrived(
     hand(step, state)
 }
 
-// The wait for a frame ended; the room stays. Refused by 11 and 4, in this order.
+// The wait for a frame ended; the room is only looked at. Refused by 11 and 4, in this order.
 #[no_mangle]
-pub extern "C" fn tacho_tool_wait_ended(
-    state: &mut [u8],
-    room: &mut [u8],
-    out: &mut [u8],
-) -> Written
+pub extern "C" fn tacho_tool_wait_ended(state: &mut [u8], room: &[u8], out: &mut [u8]) -> Written
     ensures { λ r. ⌜ r ≡ toolHanded (toolWait (now (state .entry)) (length (now (room .entry))) (length (now (out .entry)))) ⌝ }
     ensures { λ _. ⌜ now (state .exit) ≡ toolKept (toolWait (now (state .entry)) (length (now (room .entry))) (length (now (out .entry)))) (now (state .entry)) ⌝ }
-    ensures { λ _. ⌜ now (room .exit) ≡ now (room .entry) ⌝ }
     ensures { λ _. ⌜ now (out .exit) ≡ toolWaitOut (now (state .entry)) (length (now (room .entry))) (now (out .entry)) ⌝ }
 {
     let was = crate::pack_tool::unpack(state);

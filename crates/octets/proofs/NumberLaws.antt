@@ -1,14 +1,15 @@
 -- Big-endian numbers: reading gives back what was written, over every width; and the fields of two and four bytes.
 use Prim.Native.Nat.{ℕ, zero, suc, _+_, _-_, _*_, _/_, _%_, _^_, _<_, _≤_}
-use mathlib.Core.Bool.{Bool, true, false}
+use mathlib.Core.Bool.{Bool, true, false, cond, _&&_}
 use mathlib.Core.List.{List, [], _∷_, _++_}
 use mathlib.Core.Path.{_≡_, refl, _∙_}
 use native.Mathlib.Omega.{arith}
 use native.Mathlib.Numerals.{add-one}
-use lib.ListN.{length, getD, take, set, length-append}
-use lib.Seq.{take-suc, drop-cons}
-use borrow.Author.Tests.{le-leb, lt-leb, ne-eqb}
-use Rattle.octets.specs.Buffer.{partAt, put}
+use lib.ListN.{length, getD, take, drop, set, length-append, length-drop}
+use lib.Seq.{take-suc, drop-cons, getD-drop}
+use lib.Dec.{leb}
+use borrow.Author.Tests.{le-leb, lt-leb, ne-eqb, leb-true}
+use Rattle.octets.specs.Buffer.{Bytes, partAt, put}
 use Rattle.octets.specs.BigEndian.{numberFrom, numberOf, bytesOf, fieldWidth, fieldFits, numberAt, withNumber}
 use Rattle.octets.proofs.BufferLaws.{stores-put}
 
@@ -28,7 +29,7 @@ number-of-bytes (suc width) n h =
     number-snoc 0 (bytesOf width (n / 256)) (n % 256) ∙ omega (arith, number-of-bytes width (n / 256) (omega arith))
 
 -- bytes are what their number is written as
-pub bytes-of-number : (a : ℕ) (s : List ℕ) → ((i : ℕ) → getD s i 0 < 256) → (width : ℕ) → width ≤ length s → bytesOf width (numberFrom a (take width s)) ≡ take width s
+pub bytes-of-number : (a : ℕ) (s : List ℕ) → Bytes s → (width : ℕ) → width ≤ length s → bytesOf width (numberFrom a (take width s)) ≡ take width s
 bytes-of-number a s b zero h = refl
 bytes-of-number a s b (suc width) h =
     let x : ℕ = getD s width 0 in
@@ -37,6 +38,28 @@ bytes-of-number a s b (suc width) h =
     let q : (n * 256 + x) / 256 ≡ n = omega arith in
     let r : (n * 256 + x) % 256 ≡ x = omega arith in
     rw (take-suc s width 0 (omega arith), number-snoc a (take width s) x, q, r, bytes-of-number a s b width (omega arith))
+
+-- Numbers in bytes fit their fields
+
+below-bytes : (s : List ℕ) → Bytes s → (width : ℕ) → width ≤ length s → numberOf (take width s) < 256 ^ width
+below-bytes s b zero h = omega arith
+below-bytes s b (suc width) h =
+    rw (take-suc s width 0 (omega arith), number-snoc 0 (take width s) (getD s width 0)) (omega (arith, below-bytes s b width (omega arith), b width))
+
+some-power : (width : ℕ) → 0 < 256 ^ width
+some-power zero = omega arith
+some-power (suc width) = omega (arith, some-power width)
+
+pub number-fits : (width at : ℕ) (s : List ℕ) → Bytes s → numberAt width at s < 256 ^ width
+unfolding numberAt
+number-fits width at s b = go (leb (at + width) (length s)) refl (fieldWidth width)
+  where
+    go : (t : Bool) → leb (at + width) (length s) ≡ t → (w : Bool) → cond (w && t) (numberOf (partAt at width s)) 0 < 256 ^ width
+    go true e true =
+        below-bytes (drop at s) (λ i. rw getD-drop (b (at + i))) width (simp length-drop (let l : at + width ≤ length s = leb-true _ _ e in omega arith))
+    go true e false = some-power width
+    go false e true = some-power width
+    go false e false = some-power width
 
 -- Fields
 

@@ -43,3 +43,11 @@ or-zero a b e = go (eqb a 0) refl e
 pub or-is : (a j b k : ℕ) → (a ≡ 0) ⊎ (a ≡ j) → eqb j 0 ≡ false → eqb j k ≡ false → orElse a b ≡ k → Both (a ≡ 0) (b ≡ k)
 or-is a j b k (inl z) n m e = record { first = z; rest = rw z at e }
 or-is a j b k (inr q) n m e = absurd (eqb-false j k m (rw (q, n) at e))
+
+-- what follows a check that fails is not asked
+pub or-refused : (a k b : ℕ) → eqb k 0 ≡ false → orElse (orElse a k) b ≡ orElse a k
+or-refused a k b n = go (eqb a 0) refl
+  where
+    go : (t : Bool) → eqb a 0 ≡ t → orElse (orElse a k) b ≡ orElse a k
+    go true e = rw (e, n)
+    go false e = rw (e, e)

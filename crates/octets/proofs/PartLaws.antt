@@ -4,10 +4,11 @@ use mathlib.Core.Bool.{true}
 use mathlib.Core.List.{List, _++_, append-assoc}
 use mathlib.Core.Path.{_≡_, sym, ap, _∙_}
 use native.Mathlib.Omega.{arith}
-use lib.ListN.{length, getD, take, drop, length-append, length-take, length-drop, take-append-drop}
+use native.Mathlib.Decide.{decLt}
+use lib.ListN.{List·getD-eq-default, length, getD, take, drop, length-append, length-take, length-drop, take-append-drop}
 use lib.Seq.{take-append-le, drop-append-le, drop-drop, take-at, drop-at, length-take-le, getD-take, getD-drop}
 use borrow.Author.Tests.{le-leb}
-use Rattle.octets.specs.Buffer.{partAt, front}
+use Rattle.octets.specs.Buffer.{Bytes, partAt, front}
 use Rattle.octets.specs.BigEndian.{numberOf, bytesOf, fieldWidth, numberAt, withNumber}
 use Rattle.octets.proofs.BufferLaws.{length-front, length-part, put-front}
 use Rattle.octets.proofs.NumberLaws.{length-bytes, number-of-bytes}
@@ -77,3 +78,11 @@ module _ (p o : List ℕ) where
   front-kept at k e h =
       let l : length (partAt at k o) ≡ k = simp (length-take, length-drop) (omega arith) in
       rw (length-append p (partAt at k o), l, e, append-assoc p (partAt at k o), ← drop-drop k at o, take-append-drop k (drop at o))
+
+-- a part of bytes has bytes
+pub bytes-part : (at m : ℕ) (s : List ℕ) → Bytes s → Bytes (partAt at m s)
+bytes-part at m s b i =
+    elim (decLt i m) as (λ _. getD (partAt at m s) i 0 < 256) [
+      | yes h ↦ rw (← byte-in at m i s h) (b (at + i))
+      | no h ↦ rw (List·getD-eq-default (partAt at m s) 0 {n = i} (simp length-take (omega arith))) (omega arith)
+    ]

@@ -1,10 +1,14 @@
 -- Parts of a list of bytes, and what a lent buffer holds after a write: "A reply of m bytes changes only the first m of its buffer".
-use Prim.Native.Nat.{ℕ, _+_}
+use Prim.Native.Nat.{ℕ, _+_, _<_}
 use mathlib.Core.Bool.{Bool, true, false, cond, _&&_}
 use mathlib.Core.List.{List, [], _∷_, _++_}
-use lib.ListN.{length, take, drop}
+use lib.ListN.{length, getD, take, drop}
 use lib.Seq.{slice}
 use lib.Dec.{eqb, leb}
+
+-- what a slice of bytes holds
+abbrev pub Bytes : List ℕ → Type 0
+Bytes bytes = (i : ℕ) → getD bytes i 0 < 256
 
 -- n bytes from start on, as far as they reach
 abbrev pub partAt : ℕ → ℕ → List ℕ → List ℕ

@@ -10,13 +10,13 @@ use native.Mathlib.Decide.{decLt}
 use lib.ListN.{length, getD, take, drop, length-drop, take-append-drop, drop-of-length-le}
 use lib.Seq.{take-add, drop-drop, drop-cons, getD-drop}
 use borrow.Author.Tests.{lt-ltb}
-use Rattle.octets.specs.Buffer.{partAt}
+use Rattle.octets.specs.Buffer.{partAt, Bytes}
 use Rattle.octets.specs.BigEndian.{numberOf, numberAt, bytesOf}
 use Rattle.octets.proofs.Tests.{and-left, and-right}
 use Rattle.octets.proofs.BufferLaws.{length-part}
 use Rattle.octets.proofs.NumberLaws.{read-two, bytes-of-number}
 use Rattle.records.specs.Arrays.{kindAt, sizeAt, countAt, lengthAt, nextAt, standsAt, filledFrom, arraysFrom, behind, headerOf, arrayNumber, arrayBy, recordPlace, recordOf}
-use Rattle.records.specs.Written.{RecordArray, Sound, joined, writtenArray, written, upTo, arrayRead, Bytes}
+use Rattle.records.specs.Written.{RecordArray, Sound, joined, writtenArray, written, upTo, arrayRead}
 use Rattle.records.proofs.HeaderLaws.{stands-size, stands-within}
 use Rattle.records.proofs.RunLaws.{filled-none, filled-turn, arrays-turn, arrays-none, end-none, behind-turn}
 use Rattle.records.proofs.RecordLaws.{number-then}

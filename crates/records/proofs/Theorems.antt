@@ -13,12 +13,12 @@ use lib.Seq.{take-at, drop-drop, take-append-le, drop-append-le}
 use borrow.Author.Tests.{lt-ltb, ltb-true}
 use Rattle.octets.specs.Order.{unless}
 use Rattle.octets.specs.Numbers.{placeBy}
-use Rattle.octets.specs.Buffer.{partAt}
+use Rattle.octets.specs.Buffer.{partAt, Bytes}
 use Rattle.octets.specs.declared.Place.{Place}
 use Rattle.octets.specs.declared.Counted.{Counted}
 use Rattle.octets.proofs.BufferLaws.{length-part}
 use Rattle.records.specs.Arrays.{sizeAt, countAt, lengthAt, standsAt, filledFrom, isRun, arraysFrom, arraysIn, behind, headerOf, bodyNumber, arrayNumber, arrayBy, arrayCount, arrayAt, recordPlace, arrayRecords, recordOf, recordIn}
-use Rattle.records.specs.Written.{RecordArray, noRecords, AllSound, joined, writtenArray, written, arrayRead, arraysRead, Bytes}
+use Rattle.records.specs.Written.{RecordArray, noRecords, AllSound, joined, writtenArray, written, arrayRead, arraysRead}
 use Rattle.records.proofs.HeaderLaws.{stands-size, stands-within}
 use Rattle.octets.proofs.OrderLaws.{unless-is, unless-refused}
 use Rattle.records.proofs.RecordLaws.{in-own, there-stands, number-then}

@@ -60,7 +60,3 @@ arrayRead array body =
 
 unfoldable pub arraysRead : List ℕ → List RecordArray
 arraysRead body = upTo (arrayCount body .count) (λ array. arrayRead array body)
-
--- what a slice of bytes holds
-abbrev pub Bytes : List ℕ → Type 0
-Bytes body = (i : ℕ) → getD body i 0 < 256

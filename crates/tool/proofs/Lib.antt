@@ -5,3 +5,4 @@ pub mod RoomLaws
 pub mod EventLaws
 pub mod AfterLaws
 pub mod CallLaws
+pub mod BoundLaws

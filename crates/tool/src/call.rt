@@ -126,10 +126,9 @@ pub fn arrived(state: ToolState, frame: &[u8], room: &mut [u8], out: &mut [u8]) 
     }
 }
 
-// A wait ends without a frame. Refused by 11 and 4, in this order; the room is as it was.
-pub fn wait_ended(state: ToolState, room: &mut [u8], out: &mut [u8]) -> ToolStep
+// A wait ends without a frame. Refused by 11 and 4, in this order; the room is only looked at.
+pub fn wait_ended(state: ToolState, room: &[u8], out: &mut [u8]) -> ToolStep
     ensures { λ r. ⌜ r ≡ waitResult lab state (length (now (room .entry))) (length (now (out .entry))) ⌝ }
-    ensures { λ _. ⌜ now (room .exit) ≡ now (room .entry) ⌝ }
     ensures { λ _. ⌜ now (out .exit) ≡ waitOut lab state (length (now (room .entry))) (now (out .entry)) ⌝ }
 {
     let number = event_number(state, room.len(), out.len());

@@ -89,7 +89,7 @@ fn data_meaning(state: ToolState, data: &[u8], room: usize) -> Meaning
 }
 
 // What a string that arrives means, with a room of this length. A frame that the frame rules refuse is a failed wait; it has no data.
-pub fn arrival_meaning(state: ToolState, frame: &[u8], room: usize) -> Meaning
+pub(crate) fn arrival_meaning(state: ToolState, frame: &[u8], room: usize) -> Meaning
     ensures { λ r. ⌜ r ≡ arrivalMeaning lab room state (now (frame .entry)) ⌝ }
 {
     let data = frame::check::data_of(frame, End::Tool);

@@ -2,11 +2,11 @@
 use catalog::AnswerName;
 use split::SubMessage;
 
-pub mod after;
+mod after;
 pub mod call;
-pub mod event;
-pub mod room;
-pub mod sent;
+mod event;
+mod room;
+mod sent;
 pub mod state;
 
 // "One request at a time: start, session, upload, exit, stop or a transfer."

@@ -5,3 +5,4 @@ pub mod ServiceLaws
 pub mod SentLaws
 pub mod ReplyLaws
 pub mod CallLaws
+pub mod BoundLaws

@@ -1,4 +1,4 @@
--- Every sub message that a reaction sends is there.
+-- What holds of every reaction of a unit, and from it: every sub message that a reaction sends is there.
 use Prim.Native.Nat.{ℕ, _+_, _-_, _≤_}
 use mathlib.Core.Bool.{Bool, true, false, cond, not, _&&_, _||_}
 use mathlib.Core.List.{List}
@@ -11,7 +11,7 @@ use borrow.Author.Tests.{leb-true, eqb-true}
 use Rattle.octets.specs.BigEndian.{numberAt}
 use Rattle.octets.specs.Buffer.{sameBytes, partAt}
 use Rattle.octets.specs.declared.Place.{Place}
-use Rattle.octets.proofs.Tests.{and-right}
+use Rattle.octets.proofs.Tests.{and-right, never}
 use Rattle.octets.proofs.BufferLaws.{length-part}
 use Rattle.frame.specs.declared.Addresses.{Addresses}
 use Rattle.frame.specs.declared.End.the-variants as ends
@@ -33,15 +33,142 @@ use Rattle.unit.specs.declared.Phase.{Phase}
 use Rattle.unit.specs.declared.Phase.the-variants.{Closed, Started, Session, Granted, Sending}
 use Rattle.unit.specs.declared.UnitState.{UnitState}
 use Rattle.unit.specs.declared.Reaction.{Reaction}
-use Rattle.unit.specs.declared.Reaction.the-variants.{AnswerSent, Negative}
-use Rattle.unit.specs.State.{isClosed, inSession, isGranted, placeSent, sendable, phasePossible, possibleAt, possible}
+use Rattle.unit.specs.declared.Reaction.the-variants.{Ignored, CommunicationStarted, SessionOpened, RateOffered, RateChanged, UploadGranted, AnswerSent, AnswerStopped, TransferExited, CommunicationStopped, Negative}
+use Rattle.unit.specs.State.{isClosed, inSession, isGranted, nameSent, placeSent, sendable, phasePossible, possibleAt, possible}
 use Rattle.unit.specs.Services.{onSession, onRateOffer, onRateChange, onLinkControl, onUpload, requestName, answerFrom, onTransfer, onExit, onStop, onCode, onSending, onAcknowledge}
 use Rattle.unit.specs.Call.{nameAsked, placeAsked, onData, reactionAt, reactionTo}
 use Rattle.unit.specs.Sent.{pieceSent}
 use Rattle.unit.proofs.StoreFacts.{InStore, found-in}
-use Rattle.unit.proofs.StateLaws.{sendable-says}
+use Rattle.unit.proofs.StateLaws.{Sendable, sendable-says}
+
+-- What holds of every reaction of a unit: of those that send no answer, of the first sub message of the answer that is asked for, and of
+-- what follows from a code.
+
+abbrev pub sendsAnswer : Reaction → Bool
+sendsAnswer Ignored = false
+sendsAnswer CommunicationStarted = false
+sendsAnswer SessionOpened = false
+sendsAnswer (RateOffered r) = false
+sendsAnswer RateChanged = false
+sendsAnswer UploadGranted = false
+sendsAnswer (AnswerSent name k place) = true
+sendsAnswer AnswerStopped = false
+sendsAnswer TransferExited = false
+sendsAnswer CommunicationStopped = false
+sendsAnswer (Negative sid code) = false
+
+-- one of two reactions
+pub either : (P : Reaction → Type 0) (t : Bool) {x y : Reaction} → P x → P y → P (cond t x y)
+either P true p q = p
+either P false p q = q
+
+module _ (P : Reaction → Type 0) (plain : (x : Reaction) → sendsAnswer x ≡ false → P x) where
+  negative : (sid code : ℕ) → P (Negative sid code)
+  negative sid code = plain (Negative sid code) refl
+
+  from-session : (d : List ℕ) → P (onSession d)
+  unfolding onSession
+  from-session d =
+      either P (leb 2 (length d))
+      (either P (eqb (getD d 1 0) 0x81)
+      (either P (eqb (length d) 2) (plain SessionOpened refl) (negative 0x10 0x13)) (negative 0x10 0x12)) (negative 0x10 0x13)
+
+  from-rate : (phase : Phase) (d : List ℕ) → P (onRateOffer phase d)
+  unfolding onRateOffer
+  from-rate phase d =
+      either P (eqb (length d) 4)
+      (either P (eqb (getD d 2 0) 0x01 && (leb 1 (getD d 3 0) && leb (getD d 3 0) 5))
+      (either P (inSession phase) (plain (RateOffered (getD d 3 0)) refl) (negative 0x87 0x22)) (negative 0x87 0x31)) (negative 0x87 0x13)
+
+  from-change : (phase : Phase) (pending : ℕ) (d : List ℕ) → P (onRateChange phase pending d)
+  unfolding onRateChange
+  from-change phase pending d =
+      either P (eqb (length d) 3)
+      (either P (eqb (getD d 2 0) 0x03)
+      (either P (inSession phase && not (eqb pending 0)) (plain RateChanged refl) (negative 0x87 0x22)) (negative 0x87 0x31)) (negative 0x87 0x13)
+
+  from-link : (phase : Phase) (pending : ℕ) (d : List ℕ) → P (onLinkControl phase pending d)
+  unfolding onLinkControl
+  from-link phase pending d =
+      either P (leb 3 (length d))
+      (either P (eqb (getD d 1 0) 0x01) (from-rate phase d)
+      (either P (eqb (getD d 1 0) 0x02) (from-change phase pending d) (negative 0x87 0x12))) (negative 0x87 0x13)
+
+  from-upload : (phase : Phase) (d : List ℕ) → P (onUpload phase d)
+  unfolding onUpload
+  from-upload phase d =
+      either P (eqb (length d) 10)
+      (either P (sameBytes d uploadRequest)
+      (either P (inSession phase || isGranted phase) (plain UploadGranted refl) (negative 0x35 0x22)) (negative 0x35 0x31)) (negative 0x35 0x13)
+
+  from-exit : (phase : Phase) (d : List ℕ) → P (onExit phase d)
+  unfolding onExit
+  from-exit phase d =
+      either P (eqb (length d) 1) (either P (isGranted phase) (plain TransferExited refl) (negative 0x37 0x22)) (negative 0x37 0x13)
+
+  from-stop : (d : List ℕ) → P (onStop d)
+  unfolding onStop
+  from-stop d = either P (eqb (length d) 1) (plain CommunicationStopped refl) (negative 0x82 0x13)
+
+  from-transfer : (kind : ℕ) (phase : Phase) (asked : Place) (d : List ℕ) → P (answerFrom (requestName d) (sub 1) asked) → P (onTransfer kind phase asked d)
+  unfolding onTransfer
+  from-transfer kind phase asked d first =
+      either P (leb 2 (length d))
+      (either P (knownTo kind (getD d 1 0))
+      (either P (eqb (length d) (cond (isActivities (getD d 1 0)) 6 2))
+      (either P (dayNamed (requestName d))
+      (either P (isGranted phase) first (negative 0x36 0x22)) (negative 0x36 0x31)) (negative 0x36 0x13)) (negative 0x36 0x12)) (negative 0x36 0x13)
+
+  from-acknowledge : (phase : Phase) (sent : Place) (d : List ℕ) → ((c : AckCode) → P (onSending phase sent c)) → P (onAcknowledge phase sent d)
+  unfolding onAcknowledge
+  from-acknowledge phase sent d coded =
+      either P (eqb (length d) 4)
+      (either P (eqb (getD d 1 0) 0x76) (coded (code (numberAt 2 2 d))) (negative 0x83 0x31)) (negative 0x83 0x13)
+
+  -- the last one again, the next one, or none
+  from-sending : (phase : Phase) (sent : Place) (c : AckCode)
+      → ((name : AnswerName) (last : SubMessage) → phase ≡ Sending name last → P (AnswerSent name last sent))
+      → ((name : AnswerName) (last : SubMessage) → phase ≡ Sending name last → last .0 + 1 ≤ countOf (sent .len - 2) → P (AnswerSent name (sub (last .0 + 1)) sent))
+      → P (onSending phase sent c)
+  unfolding onSending onCode
+  from-sending Closed sent c again next = negative 0x83 0x22
+  from-sending Started sent c again next = negative 0x83 0x22
+  from-sending Session sent c again next = negative 0x83 0x22
+  from-sending Granted sent c again next = negative 0x83 0x22
+  from-sending (Sending name last) sent c again next =
+      either P (sameCode c (repeatOf last)) (again name last refl)
+      (either P (sameCode c (acknowledgeOf last)) (go (leb (last .0 + 1) (countOf (sent .len - 2))) refl)
+      (either P (sameCode c stopCode) (plain AnswerStopped refl) (negative 0x83 0x22)))
+    where
+      go : (b : Bool) → leb (last .0 + 1) (countOf (sent .len - 2)) ≡ b → P (cond b (AnswerSent name (sub (last .0 + 1)) sent) (Negative 0x83 0x12))
+      go true e = next name last refl (leb-true _ _ e)
+      go false e = negative 0x83 0x12
+
+  module _ (a : Addresses) (sent asked : Place) (u : UnitState) (b : List ℕ) where
+    abbrev heard : List ℕ
+    heard = dataOf a ends.Unit b
+
+    pub every-reaction : P (answerFrom (requestName heard) (sub 1) asked)
+        → ((name : AnswerName) (last : SubMessage) → u .phase ≡ Sending name last → P (AnswerSent name last sent))
+        → ((name : AnswerName) (last : SubMessage) → u .phase ≡ Sending name last → last .0 + 1 ≤ countOf (sent .len - 2) → P (AnswerSent name (sub (last .0 + 1)) sent))
+        → P (reactionAt a sent asked u b)
+    unfolding reactionAt onData
+    every-reaction first again next =
+        either P (isStart b) (plain CommunicationStarted refl)
+        (either P (isClosed (u .phase)) (plain Ignored refl)
+        (either P (eqb (getD heard 0 0) 0x36) (from-transfer (u .kind) (u .phase) asked heard first)
+        (either P (eqb (getD heard 0 0) 0x83) (from-acknowledge (u .phase) sent heard (λ c. from-sending (u .phase) sent c again next))
+        (either P (eqb (getD heard 0 0) 0x10) (from-session heard)
+        (either P (eqb (getD heard 0 0) 0x87) (from-link (u .phase) (u .pending) heard)
+        (either P (eqb (getD heard 0 0) 0x35) (from-upload (u .phase) heard)
+        (either P (eqb (getD heard 0 0) 0x37) (from-exit (u .phase) heard)
+        (either P (eqb (getD heard 0 0) 0x82) (from-stop heard) (negative (getD heard 0 0) 0x11)))))))))
 
 -- Sub messages
+
+sending-sendable : (place : Place) (phase : Phase) (name : AnswerName) (last : SubMessage) → phase ≡ Sending name last → phasePossible place phase ≡ true → sendable place last ≡ true
+unfolding phasePossible
+sending-sendable place phase name last e h = rw e at h
 
 pub count-some : (n : ℕ) → 1 ≤ countOf n
 count-some n =
@@ -58,53 +185,19 @@ module _ (s : List ℕ) where
       let most : n ≤ 60000 = i .most in
       rw e (piece-zero (n - 2) k (omega arith) f l)
 
-  -- one of two reactions
-  either : (t : Bool) (x y : Reaction) → pieceSent s x ≡ 0 → pieceSent s y ≡ 0 → pieceSent s (cond t x y) ≡ 0
-  either true x y p q = p
-  either false x y p q = q
-
-  from-session : (d : List ℕ) → pieceSent s (onSession d) ≡ 0
-  unfolding pieceSent onSession
-  from-session d =
-      either (leb 2 (length d)) _ _
-      (either (eqb (getD d 1 0) 0x81) _ _
-      (either (eqb (length d) 2) _ _ refl refl) refl) refl
-
-  from-rate : (phase : Phase) (d : List ℕ) → pieceSent s (onRateOffer phase d) ≡ 0
-  unfolding pieceSent onRateOffer
-  from-rate phase d =
-      either (eqb (length d) 4) _ _
-      (either (eqb (getD d 2 0) 0x01 && (leb 1 (getD d 3 0) && leb (getD d 3 0) 5)) _ _
-      (either (inSession phase) _ _ refl refl) refl) refl
-
-  from-change : (phase : Phase) (pending : ℕ) (d : List ℕ) → pieceSent s (onRateChange phase pending d) ≡ 0
-  unfolding pieceSent onRateChange
-  from-change phase pending d =
-      either (eqb (length d) 3) _ _
-      (either (eqb (getD d 2 0) 0x03) _ _
-      (either (inSession phase && not (eqb pending 0)) _ _ refl refl) refl) refl
-
-  from-link : (phase : Phase) (pending : ℕ) (d : List ℕ) → pieceSent s (onLinkControl phase pending d) ≡ 0
-  unfolding pieceSent onLinkControl
-  from-link phase pending d =
-      either (leb 3 (length d)) _ _
-      (either (eqb (getD d 1 0) 0x01) _ _ (from-rate phase d)
-      (either (eqb (getD d 1 0) 0x02) _ _ (from-change phase pending d) refl)) refl
-
-  from-upload : (phase : Phase) (d : List ℕ) → pieceSent s (onUpload phase d) ≡ 0
-  unfolding pieceSent onUpload
-  from-upload phase d =
-      either (eqb (length d) 10) _ _
-      (either (sameBytes d uploadRequest) _ _
-      (either (inSession phase || isGranted phase) _ _ refl refl) refl) refl
-
-  from-exit : (phase : Phase) (d : List ℕ) → pieceSent s (onExit phase d) ≡ 0
-  unfolding pieceSent onExit
-  from-exit phase d = either (eqb (length d) 1) _ _ (either (isGranted phase) _ _ refl refl) refl
-
-  from-stop : (d : List ℕ) → pieceSent s (onStop d) ≡ 0
-  unfolding pieceSent onStop
-  from-stop d = either (eqb (length d) 1) _ _ refl refl
+  no-piece : (x : Reaction) → sendsAnswer x ≡ false → pieceSent s x ≡ 0
+  unfolding pieceSent
+  no-piece Ignored e = refl
+  no-piece CommunicationStarted e = refl
+  no-piece SessionOpened e = refl
+  no-piece (RateOffered r) e = refl
+  no-piece RateChanged e = refl
+  no-piece UploadGranted e = refl
+  no-piece (AnswerSent name k place) e = never (cc)
+  no-piece AnswerStopped e = refl
+  no-piece TransferExited e = refl
+  no-piece CommunicationStopped e = refl
+  no-piece (Negative sid code) e = refl
 
   module _ (unbroken : storeNumber narrow s ≡ 0) where
     -- the first sub message of the answer that was looked up, if it is held
@@ -116,62 +209,26 @@ module _ (s : List ℕ) where
         go true e = piece-in (lookupPlace narrow asked s .start) (lookupPlace narrow asked s .len) 1 (found-in s asked unbroken (eqb-true _ _ e)) (omega arith) (count-some _)
         go false e = refl
 
-    from-transfer : (kind : ℕ) (phase : Phase) (asked : AnswerName) (d : List ℕ) → pieceSent s (onTransfer kind phase (lookupPlace narrow asked s) d) ≡ 0
-    unfolding pieceSent onTransfer
-    from-transfer kind phase asked d =
-        either (leb 2 (length d)) _ _
-        (either (knownTo kind (getD d 1 0)) _ _
-        (either (eqb (length d) (cond (isActivities (getD d 1 0)) 6 2)) _ _
-        (either (dayNamed (requestName d)) _ _
-        (either (isGranted phase) _ _ (first-sent (requestName d) asked) refl) refl) refl) refl) refl
+    -- what is known of the answer that is being sent
+    module _ (u : UnitState) (name : AnswerName) (last : SubMessage) (is : u .phase ≡ Sending name last) (h : phasePossible (placeSent s (u .phase)) (u .phase) ≡ true) where
+      sendable-now : Sendable (placeSent s (u .phase)) (last .0)
+      sendable-now = sendable-says (placeSent s (u .phase)) last (sending-sendable (placeSent s (u .phase)) (u .phase) name last is h)
 
-    -- the last one again, or the next one
-    from-code : (name : AnswerName) (last : SubMessage) (c : AckCode) → sendable (lookupPlace narrow name s) last ≡ true → pieceSent s (onCode name last (lookupPlace narrow name s) c) ≡ 0
-    unfolding pieceSent onCode
-    from-code name last c h =
-        let place : Place = lookupPlace narrow name s in
-        let t = sendable-says place last h in
-        let i = found-in s name unbroken (t .held) in
-        either (sameCode c (repeatOf last)) _ _ (piece-in (place .start) (place .len) (last .0) i (t .first) (t .last))
-        (either (sameCode c (acknowledgeOf last)) _ _ (next (leb (last .0 + 1) (countOf (place .len - 2))) refl i)
-        (either (sameCode c stopCode) _ _ refl refl))
-      where
-        next : (b : Bool) → leb (last .0 + 1) (countOf (lookupPlace narrow name s .len - 2)) ≡ b → InStore s (lookupPlace narrow name s .start) (lookupPlace narrow name s .len)
-            → pieceSent s (cond b (AnswerSent name (sub (last .0 + 1)) (lookupPlace narrow name s)) (Negative 0x83 0x12)) ≡ 0
-        next true e i = piece-in (lookupPlace narrow name s .start) (lookupPlace narrow name s .len) (last .0 + 1) i (omega arith) (leb-true _ _ e)
-        next false e i = refl
+      sent-in : InStore s (placeSent s (u .phase) .start) (placeSent s (u .phase) .len)
+      sent-in = found-in s (nameSent (u .phase)) unbroken (sendable-now .held)
 
-    from-sending : (phase : Phase) (c : AckCode) → phasePossible (placeSent s phase) phase ≡ true → pieceSent s (onSending phase (placeSent s phase) c) ≡ 0
-    unfolding pieceSent onSending phasePossible
-    from-sending Closed c h = refl
-    from-sending Started c h = refl
-    from-sending Session c h = refl
-    from-sending Granted c h = refl
-    from-sending (Sending name last) c h = from-code name last c h
-
-    from-acknowledge : (phase : Phase) (d : List ℕ) → phasePossible (placeSent s phase) phase ≡ true → pieceSent s (onAcknowledge phase (placeSent s phase) d) ≡ 0
-    unfolding pieceSent onAcknowledge
-    from-acknowledge phase d h =
-        either (eqb (length d) 4) _ _
-        (either (eqb (getD d 1 0) 0x76) _ _ (from-sending phase (code (numberAt 2 2 d)) h) refl) refl
-
-    from-data : (u : UnitState) (d : List ℕ) → phasePossible (placeSent s (u .phase)) (u .phase) ≡ true → pieceSent s (onData (placeSent s (u .phase)) (placeAsked s d) u d) ≡ 0
-    unfolding pieceSent onData
-    from-data u d h =
-        either (eqb (getD d 0 0) 0x36) _ _ (from-transfer (u .kind) (u .phase) (nameAsked d) d)
-        (either (eqb (getD d 0 0) 0x83) _ _ (from-acknowledge (u .phase) d h)
-        (either (eqb (getD d 0 0) 0x10) _ _ (from-session d)
-        (either (eqb (getD d 0 0) 0x87) _ _ (from-link (u .phase) (u .pending) d)
-        (either (eqb (getD d 0 0) 0x35) _ _ (from-upload (u .phase) d)
-        (either (eqb (getD d 0 0) 0x37) _ _ (from-exit (u .phase) d)
-        (either (eqb (getD d 0 0) 0x82) _ _ (from-stop d) refl))))))
+      sent-piece : (k : SubMessage) → 1 ≤ k .0 → k .0 ≤ countOf (placeSent s (u .phase) .len - 2) → pieceSent s (AnswerSent name k (placeSent s (u .phase))) ≡ 0
+      unfolding pieceSent
+      sent-piece k f l = piece-in (placeSent s (u .phase) .start) (placeSent s (u .phase) .len) (k .0) sent-in f l
 
     -- whatever a unit in a possible state sends from an unbroken store is there
     pub sends-what-is : (a : Addresses) (u : UnitState) (b : List ℕ) → possible s u ≡ true → pieceSent s (reactionTo a s u b) ≡ 0
-    unfolding pieceSent reactionTo reactionAt possible possibleAt
+    unfolding reactionTo possible possibleAt
     sends-what-is a u b h =
         let q = and-right (ltb (u .kind) 3) _ h in
         let r = and-right (leb 1 (u .rate) && leb (u .rate) 5) _ q in
         let p : phasePossible (placeSent s (u .phase)) (u .phase) ≡ true = and-right (leb (u .pending) 5) _ r in
-        either (isStart b) _ _ refl
-        (either (isClosed (u .phase)) _ _ refl (from-data u (dataOf a ends.Unit b) p))
+        every-reaction (λ x. pieceSent s x ≡ 0) no-piece a (placeSent s (u .phase)) (placeAsked s (dataOf a ends.Unit b)) u b
+        (first-sent (requestName (dataOf a ends.Unit b)) (nameAsked (dataOf a ends.Unit b)))
+        (λ name last e. let t = sendable-now u name last e p in sent-piece u name last e p last (t .first) (t .last))
+        (λ name last e l. sent-piece u name last e p (sub (last .0 + 1)) (omega arith) l)

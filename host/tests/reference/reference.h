@@ -28,6 +28,6 @@ tacho_written ref_tool_begin(uint8_t *state, size_t state_len, uint8_t request, 
                              size_t out_len);
 tacho_written ref_tool_arrived(uint8_t *state, size_t state_len, const uint8_t *frame, size_t frame_len, uint8_t *room,
                                size_t room_len, uint8_t *out, size_t out_len);
-tacho_written ref_tool_wait_ended(uint8_t *state, size_t state_len, uint8_t *room, size_t room_len, uint8_t *out, size_t out_len);
+tacho_written ref_tool_wait_ended(uint8_t *state, size_t state_len, const uint8_t *room, size_t room_len, uint8_t *out, size_t out_len);
 
 #endif

@@ -146,7 +146,7 @@ tacho_written ref_tool_arrived(uint8_t *state, size_t state_len, const uint8_t *
     return (tacho_written){0, len};
 }
 
-tacho_written ref_tool_wait_ended(uint8_t *state, size_t state_len, uint8_t *room, size_t room_len, uint8_t *out, size_t out_len)
+tacho_written ref_tool_wait_ended(uint8_t *state, size_t state_len, const uint8_t *room, size_t room_len, uint8_t *out, size_t out_len)
 {
     tool t;
     (void)room;

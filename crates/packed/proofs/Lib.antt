@@ -1,0 +1,4 @@
+pub mod Calls
+pub mod Facts
+pub mod Theorem
+pub mod Fresh

@@ -1,0 +1,4 @@
+-- Demand 3 over the calls of tacho.h.
+pub mod PackedEnds
+pub mod Simulation
+pub mod PackedDemand

@@ -1,0 +1,76 @@
+-- The tool's state fits its fields: every call keeps the day below 2^32, the number expected below 65,536 and the bytes held below 2^32, as packing
+-- needs.
+use Prim.Native.Nat.{ℕ, _+_, _<_, _≤_}
+use mathlib.Core.Bool.{Bool, true, false, cond}
+use mathlib.Core.List.{List, []}
+use mathlib.Core.Path.{_≡_, refl, sym, _∙_}
+use native.Mathlib.Omega.{arith}
+use lib.Dec.{eqb, leb}
+use lib.ListN.{length}
+use borrow.Author.Tests.{eqb-true}
+use Rattle.octets.proofs.Tests.{never}
+use Rattle.frame.specs.declared.Addresses.{Addresses}
+use Rattle.frame.specs.declared.End.the-variants as ends
+use Rattle.frame.specs.Frame.{dataOf}
+use Rattle.catalog.specs.declared.AnswerName.{AnswerName}
+use Rattle.tool.specs.declared.Request.{Request}
+use Rattle.tool.specs.declared.Outcome.the-variants.{NoAnswer}
+use Rattle.tool.specs.declared.ToolState.{ToolState}
+use Rattle.tool.specs.declared.Meaning.{Meaning}
+use Rattle.tool.specs.declared.Meaning.the-variants.{Ignored, FailedWait, Confirmed, WholeAnswer, SubMessageTaken, LastTaken, NoRoomForAnswer, NoRoomForSubMessage, RefusedBy}
+use Rattle.tool.specs.Event.{arrivalMeaning, arrivalBytes, takes, ended, waits, afterFailedWait, stateAfter}
+use Rattle.tool.specs.Call.{begun, beginNumber, beginState, eventNumber, eventState}
+use Rattle.tool.proofs.EventLaws.{taken}
+use Rattle.tool.proofs.CallLaws.{takes-next}
+
+pub record Fits (t : ToolState) : Type 0 where
+  pub day : t .name .day < 4294967296
+  pub expected : t .expected .0 < 65536
+  pub held : t .held < 4294967296
+
+module _ (t : ToolState) (fits : Fits t) where
+  failed-fits : Fits (afterFailedWait t)
+  unfolding afterFailedWait
+  failed-fits = go (leb 3 (t .sendings))
+    where
+      go : (b : Bool) → Fits (cond b (ended t NoAnswer (t .held)) (waits t (t .sendings + 1) (t .expected .0) (t .held)))
+      go true = record { day = fits .day; expected = fits .expected; held = fits .held }
+      go false = record { day = fits .day; expected = fits .expected; held = fits .held }
+
+  -- where bytes are taken, their sum with those held and the next number fit
+  after-fits : (m : Meaning) (n : ℕ) → (takes m ≡ true → t .held + n ≤ 60000) → (takes m ≡ true → t .expected .0 < 65535) → Fits (stateAfter t m n)
+  unfolding takes stateAfter
+  after-fits Ignored n most next = fits
+  after-fits FailedWait n most next = failed-fits
+  after-fits Confirmed n most next = record { day = fits .day; expected = fits .expected; held = fits .held }
+  after-fits WholeAnswer n most next = record { day = fits .day; expected = fits .expected; held = omega (arith, most refl) }
+  after-fits SubMessageTaken n most next = record { day = fits .day; expected = omega (arith, next refl); held = omega (arith, most refl) }
+  after-fits LastTaken n most next = record { day = fits .day; expected = fits .expected; held = omega (arith, most refl) }
+  after-fits NoRoomForAnswer n most next = record { day = fits .day; expected = fits .expected; held = fits .held }
+  after-fits NoRoomForSubMessage n most next = record { day = fits .day; expected = fits .expected; held = fits .held }
+  after-fits (RefusedBy code) n most next = record { day = fits .day; expected = fits .expected; held = fits .held }
+
+  pub begin-fits : (request : Request) (name : AnswerName) (out : ℕ) → name .day < 4294967296 → Fits (beginState t request name out)
+  unfolding beginState
+  begin-fits request name out d = go (eqb (beginNumber t request name out) 0)
+    where
+      go : (b : Bool) → Fits (cond b (begun request name) t)
+      go true = record { day = d; expected = omega arith; held = omega arith }
+      go false = fits
+
+  event-fits : (m : Meaning) (new : List ℕ) (room out : ℕ) → (eventNumber t room out ≡ 0 → Fits (stateAfter t m (length new))) → Fits (eventState t m new room out)
+  unfolding eventState
+  event-fits m new room out f = go (eqb (eventNumber t room out) 0) refl
+    where
+      go : (b : Bool) → eqb (eventNumber t room out) 0 ≡ b → Fits (cond b (stateAfter t m (length new)) t)
+      go true e = f (eqb-true _ _ e)
+      go false e = fits
+
+  pub wait-fits : (room out : ℕ) → Fits (eventState t FailedWait [] room out)
+  unfolding takes
+  wait-fits room out = event-fits FailedWait [] room out (λ z. after-fits FailedWait 0 (λ e. never (cc)) (λ e. never (cc)))
+
+  pub arrival-fits : (a : Addresses) (b : List ℕ) (room out : ℕ) → Fits (eventState t (arrivalMeaning a room t b) (arrivalBytes a t b) room out)
+  arrival-fits a b room out =
+      event-fits (arrivalMeaning a room t b) (arrivalBytes a t b) room out (λ z.
+      after-fits (arrivalMeaning a room t b) (length (arrivalBytes a t b)) (λ k. taken a room t b k .inMost) (λ k. takes-next a t b (dataOf a ends.Tool b) room out (eventNumber t room out) (arrivalMeaning a room t b) refl z refl refl k))
