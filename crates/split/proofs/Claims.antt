@@ -2,7 +2,8 @@
 use native.Mathlib.Omega.{arith}
 use lib.ListN.{length}
 use Rattle.split.specs.Claims.{SplitClaims}
-use Rattle.split.proofs.Theorems.{sub-good, sub-reads-back, count-one, count-split, length-one, length-full, length-last, number-reads-back, joined-is-answer, most-data}
+use Rattle.split.proofs.Theorems.{sub-good, sub-reads-back, count-one, count-split, length-one, length-full, length-last}
+use Rattle.split.proofs.Theorems.{number-reads-back, joined-is-answer, most-data}
 
 pub claims : SplitClaims
 claims =
