@@ -2,3 +2,4 @@
 pub mod WriteLaws
 pub mod CheckLaws
 pub mod Theorems
+pub mod Claims

@@ -1,3 +1,4 @@
 -- Document 01, Frames.
 pub mod Frame
 pub mod Messages
+pub mod Claims

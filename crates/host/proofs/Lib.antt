@@ -4,3 +4,4 @@ pub mod UnitLaws
 pub mod ToolLaws
 pub mod CallLaws
 pub mod Theorems
+pub mod Claims

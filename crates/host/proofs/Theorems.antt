@@ -8,28 +8,24 @@ use native.Mathlib.Omega.{arith}
 use lib.Dec.{leb}
 use lib.ListN.{length}
 use borrow.Author.Tests.{ne-eqb, le-leb}
-use Rattle.octets.specs.Order.{unless}
 use Rattle.octets.specs.Numbers.{notInTable}
 use Rattle.octets.specs.Buffer.{front}
-use Rattle.octets.specs.declared.Written.{Written}
 use Rattle.frame.specs.Frame.{lab}
 use Rattle.catalog.specs.declared.AnswerName.{AnswerName}
 use Rattle.store.specs.Layout.{narrow}
 use Rattle.store.specs.Check.{storeNumber}
-use Rattle.unit.specs.Call.{unitNumber, unitReply, unitResult, unitOut}
+use Rattle.unit.specs.Call.{unitReply, unitResult, unitOut}
 use Rattle.tool.specs.declared.Meaning.{Meaning}
-use Rattle.tool.specs.Call.{requestNumber, beginNumber, beginSent, beginResult, beginOut, eventNumber, eventSent, eventRoom, eventResult, eventOut}
-use Rattle.host.specs.Packed.{isUnit, unpackedUnit, requestFrom, isTool, unpackedTool}
-use Rattle.host.specs.Calls.{unitHanded, unitKept, unitStep, unitStepReply, toolHanded, toolKept, toolBegin, toolBeginOut}
+use Rattle.tool.specs.Call.{requestNumber, beginNumber, beginSent, beginResult, beginOut, eventSent, eventRoom, eventResult, eventOut}
+use Rattle.host.specs.Packed.{isUnit, requestFrom, isTool, unpackedTool}
+use Rattle.host.specs.Calls.{unitFreshNumber, unitFreshState, unitHanded, unitKept, unitStep, unitStepReply}
+use Rattle.host.specs.Calls.{toolFreshNumber, toolFreshState, toolHanded, toolKept, toolBegin, toolBeginOut}
+use Rattle.host.specs.Claims.{refusal}
 use Rattle.host.proofs.CallLaws.{unit-impossible, begin-impossible, event-impossible}
-
--- a refusal as the host sees it
-abbrev pub refusal : ℕ → Written
-refusal number = record { number = number; len = 0 }
 
 -- The unit
 
-module _ (b store f reply : List ℕ) (n : ℕ) (is : unitNumber lab store (length reply) (unpackedUnit b) f ≡ n) (refused : n ≡ 0 → ⊥) where
+module _ (b store f reply : List ℕ) (n : ℕ) (is : unitStep b store (length reply) f .number ≡ n) (refused : n ≡ 0 → ⊥) where
   pub unit-refused-result : unitHanded (unitStep b store (length reply) f) ≡ refusal n
   unfolding unitHanded unitResult unitReply
   unit-refused-result = rw (is, ne-eqb n 0 refused)
@@ -39,17 +35,20 @@ module _ (b store f reply : List ℕ) (n : ℕ) (is : unitNumber lab store (leng
   unit-refused-state = rw (is, ne-eqb n 0 refused)
 
   pub unit-refused-reply : unitStepReply b store f reply ≡ reply
-  unfolding unitOut unitReply front
+  unfolding unitOut unitReply unitResult front
   unit-refused-reply = rw (is, ne-eqb n 0 refused)
 
--- "A slice that is not exactly that long, or whose bytes are no state, counts as an impossible state (11)"
-pub unit-no-state : (b store f reply : List ℕ) → storeNumber narrow store ≡ 0 → isUnit b ≡ false → unitHanded (unitStep b store (length reply) f) ≡ refusal 11
+-- "Packed state bytes that are no state count as impossible": 11, behind 5
+pub unit-no-state : (b store f reply : List ℕ) → storeNumber narrow store ≡ 0 → isUnit b ≡ false
+    → unitHanded (unitStep b store (length reply) f) ≡ refusal 11
+unfolding unitResult
 unit-no-state b store f reply s h =
     unit-refused-result b store f reply 11 (unit-impossible store (length reply) b f h ∙ rw s) (λ z. omega arith)
 
 -- The tool: an arrival and a wait's end are events that mean m and add the new bytes
 
-module _ (b room out new : List ℕ) (m : Meaning) (n : ℕ) (is : eventNumber (unpackedTool b) (length room) (length out) ≡ n) (refused : n ≡ 0 → ⊥) where
+module _ (b room out new : List ℕ) (m : Meaning) (n : ℕ)
+    (is : eventResult lab (unpackedTool b) m new (length room) (length out) .number ≡ n) (refused : n ≡ 0 → ⊥) where
   pub event-refused-result : toolHanded (eventResult lab (unpackedTool b) m new (length room) (length out)) ≡ refusal n
   unfolding toolHanded eventResult eventSent
   event-refused-result = rw (is, ne-eqb n 0 refused)
@@ -59,26 +58,25 @@ module _ (b room out new : List ℕ) (m : Meaning) (n : ℕ) (is : eventNumber (
   event-refused-state = rw (is, ne-eqb n 0 refused)
 
   pub event-refused-room : eventRoom (unpackedTool b) m new (length out) room ≡ room
-  unfolding eventRoom
+  unfolding eventRoom eventResult
   event-refused-room = rw (is, ne-eqb n 0 refused)
 
   pub event-refused-out : eventOut lab (unpackedTool b) m (length room) out ≡ out
-  unfolding eventOut eventSent front
+  unfolding eventOut eventSent eventResult front
   event-refused-out = rw (is, ne-eqb n 0 refused)
 
-pub event-no-state : (b room out new : List ℕ) (m : Meaning) → isTool b ≡ false → toolHanded (eventResult lab (unpackedTool b) m new (length room) (length out)) ≡ refusal 11
+pub event-no-state : (b room out new : List ℕ) (m : Meaning) → isTool b ≡ false
+    → toolHanded (eventResult lab (unpackedTool b) m new (length room) (length out)) ≡ refusal 11
+unfolding eventResult
 event-no-state b room out new m h =
     event-refused-result b room out new m 11 (event-impossible (length room) (length out) b h) (λ z. omega arith)
 
 -- a begin, whose number is 12 for a request above 5
 
 module _ (b out : List ℕ) (request : ℕ) (name : AnswerName) where
-  unfoldable pub begunNumber : ℕ
-  begunNumber = unless (leb request 5) notInTable (beginNumber (unpackedTool b) (requestFrom request) name (length out))
-
-  module _ (n : ℕ) (is : begunNumber ≡ n) (refused : n ≡ 0 → ⊥) where
+  module _ (n : ℕ) (is : toolBegin b request name (length out) .number ≡ n) (refused : n ≡ 0 → ⊥) where
     pub begin-refused-result : toolHanded (toolBegin b request name (length out)) ≡ refusal n
-    unfolding toolHanded toolBegin beginResult beginSent begunNumber
+    unfolding toolHanded toolBegin beginResult beginSent
     begin-refused-result = go (leb request 5) refl
       where
         go : (x : Bool) → leb request 5 ≡ x → toolHanded (toolBegin b request name (length out)) ≡ refusal n
@@ -86,22 +84,29 @@ module _ (b out : List ℕ) (request : ℕ) (name : AnswerName) where
         go false e = let k : notInTable ≡ n = rw e at is in rw (e, ← k)
 
     pub begin-refused-state : toolKept (toolBegin b request name (length out)) b ≡ b
-    unfolding toolKept toolBegin beginResult begunNumber
-    begin-refused-state = go (leb request 5) refl
-      where
-        go : (x : Bool) → leb request 5 ≡ x → toolKept (toolBegin b request name (length out)) b ≡ b
-        go true e = let k : beginNumber (unpackedTool b) (requestFrom request) name (length out) ≡ n = rw e at is in rw (e, k, ne-eqb n 0 refused)
-        go false e = rw e
+    unfolding toolKept
+    begin-refused-state = rw (is, ne-eqb n 0 refused)
 
     pub begin-refused-out : toolBeginOut b request name out ≡ out
-    unfolding toolBeginOut beginOut beginSent begunNumber front
+    unfolding toolBegin toolBeginOut beginResult beginOut beginSent front
     begin-refused-out = go (leb request 5) refl
       where
         go : (x : Bool) → leb request 5 ≡ x → toolBeginOut b request name out ≡ out
         go true e = let k : beginNumber (unpackedTool b) (requestFrom request) name (length out) ≡ n = rw e at is in rw (e, k, ne-eqb n 0 refused)
         go false e = rw e
 
-  pub begin-no-state : request ≤ 5 → requestNumber (requestFrom request) name ≡ 0 → isTool b ≡ false → toolHanded (toolBegin b request name (length out)) ≡ refusal 11
-  unfolding begunNumber
+  pub begin-no-state : request ≤ 5 → requestNumber (requestFrom request) name ≡ 0 → isTool b ≡ false
+      → toolHanded (toolBegin b request name (length out)) ≡ refusal 11
+  unfolding toolBegin beginResult
   begin-no-state r s h =
       begin-refused-result 11 (rw (le-leb request 5 r) (begin-impossible (requestFrom request) name (length out) b h ∙ rw s)) (λ z. omega arith)
+
+-- a fresh state that is refused
+
+pub unit-fresh-refused : (kind : ℕ) (b : List ℕ) → (unitFreshNumber kind (length b) ≡ 0 → ⊥) → unitFreshState kind b ≡ b
+unfolding unitFreshState
+unit-fresh-refused kind b refused = rw (ne-eqb (unitFreshNumber kind (length b)) 0 refused)
+
+pub tool-fresh-refused : (b : List ℕ) → (toolFreshNumber (length b) ≡ 0 → ⊥) → toolFreshState b ≡ b
+unfolding toolFreshState
+tool-fresh-refused b refused = rw (ne-eqb (toolFreshNumber (length b)) 0 refused)

@@ -2,3 +2,4 @@
 pub mod Ends
 pub mod Packed
 pub mod Calls
+pub mod Claims

@@ -7,3 +7,4 @@ pub mod ReadLaws
 pub mod Theorems
 pub mod ViewWalk
 pub mod ViewTheorems
+pub mod Claims

@@ -2,3 +2,4 @@
 pub mod Arrays
 pub mod View
 pub mod Written
+pub mod Claims

@@ -2,3 +2,4 @@
 pub mod SplitLaws
 pub mod JoinLaws
 pub mod Theorems
+pub mod Claims

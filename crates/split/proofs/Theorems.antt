@@ -124,7 +124,7 @@ module _ (trep : ℕ) (d : List ℕ) where
         rw (z, q) joined-last
     joined-rest (suc m) k f e = joined-full m k f (omega arith) (joined-rest m (k + 1) (omega arith) (omega arith))
 
--- "The sub messages of an answer, joined, are the answer", for every length up to the bound
+-- the frames of an answer, read at the tool and joined, are its data, for every length up to the bound
 pub joined-is-answer : (a : Addresses) (trep : ℕ) (d : List ℕ) → length d ≤ 59998 → joinedFrames a trep (framesOf a trep d) ≡ complete d
 joined-is-answer a trep d b =
     rw (fields-read a trep d (countOf (length d)) 1)
@@ -157,6 +157,6 @@ module _ (trep : ℕ) (d : List ℕ) where
       (count-split (length d) (omega arith) ∙ q, length-full trep d (omega arith) 1 (omega arith) (omega arith), length-full trep d (omega arith) 2 (omega arith) (omega arith), omega (arith, rw q at (length-last trep d (omega arith))))
 
 -- "59,998 data bytes make 240 sub messages ..; one byte more is 8"
-pub most-data : (subMessages 59998 .count ≡ 240) × (subMessages 59999 .number ≡ 8)
+pub most-data : (subMessages 59998 ≡ record { number = 0; count = 240 }) × (subMessages 59999 ≡ record { number = 8; count = 0 })
 unfolding subMessages countOf
 most-data = (refl, refl)

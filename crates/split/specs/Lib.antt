@@ -2,3 +2,4 @@
 pub mod Split
 pub mod Codes
 pub mod Join
+pub mod Claims

@@ -8,3 +8,4 @@ pub mod AppendedLaws
 pub mod Theorems
 pub mod Refusals
 pub mod Example
+pub mod Claims

@@ -14,6 +14,7 @@ use Rattle.catalog.proofs.NameLaws.{same-self, same-is}
 use Rattle.store.specs.Layout.{narrow, answers, nameAt}
 use Rattle.store.specs.Check.{namedFrom}
 use Rattle.store.specs.Read.{positionFrom, position}
+pub use Rattle.store.specs.Claims.{HeldAs, Missing}
 
 -- the entry that it stops at has the name
 pub position-named : (k i : ℕ) (name : AnswerName) (s : List ℕ) → positionFrom narrow k i name s < i + k → nameAt narrow (positionFrom narrow k i name s) s ≡ name
@@ -52,15 +53,7 @@ named-position (suc k) j name s = go (sameAnswer (nameAt narrow j s) name) (name
     go true e = sym (lt-ltb j (j + suc k) (omega arith))
     go false e = let m : j + suc k ≡ j + 1 + k = omega arith in rw m e
 
--- some held answer has that name
-pub record HeldAs (name : AnswerName) (s : List ℕ) : Type 0 where
-  pub at : ℕ
-  pub below : at < answers narrow s
-  pub named : nameAt narrow at s ≡ name
-
--- none has
-abbrev pub Missing : AnswerName → List ℕ → Type 0
-Missing name s = (i : ℕ) → i < answers narrow s → nameAt narrow i s ≡ name → ⊥
+-- Names that are held, and names that are missing
 
 module _ (name : AnswerName) (s : List ℕ) where
   pub held-position : HeldAs name s → position narrow name s < answers narrow s

@@ -1,7 +1,7 @@
 -- Appending and looking up, for every buffer, answer and day.
 use Prim.Native.Nat.{ℕ, zero, suc, _+_, _<_, _≤_}
 use mathlib.Core.Bool.{true, false}
-use mathlib.Core.List.{List, [], _∷_, _++_, append-assoc, append-nil}
+use mathlib.Core.List.{List, [], _++_, append-assoc, append-nil}
 use mathlib.Core.Path.{_≡_, refl, sym, ap, _∙_}
 use native.Mathlib.Omega.{arith}
 use native.Mathlib.Nat.{add-zero, zero-add}
@@ -15,6 +15,7 @@ use Rattle.store.specs.Layout.{narrow, answers, streamLength, entryOffse
 use Rattle.store.specs.Check.{placeRight, placesRight, answerRight, namedFrom, storeNumber}
 use Rattle.store.specs.Read.{positionFrom, position, lookupNumber, lookupPart, streamPart}
 use Rattle.store.specs.Append.{nameOf, appendNumber, appendOut}
+use Rattle.store.specs.Claims.{ToAppend, nameFor, Appends, none, more, backToBack, ReadsBack}
 use Rattle.octets.proofs.PartLaws.{byte-in}
 use Rattle.store.proofs.StoreLaws.{unbroken, unbroken-zero, held, place-facts, place-built, names-at, answers-built, names-built, lookup-zero, lookup-missing, lookup-empty, found, position-of, lookup-of, stream-part}
 use Rattle.store.proofs.PositionLaws.{position-named, position-first, named-position}
@@ -192,38 +193,26 @@ module _ (a : List ℕ) (day : ℕ) (s : List ℕ) (taken : appendNumber narrow 
 
 -- Any list of accepted appends
 
-pub record Given : Type 0 where
-  pub answer : List ℕ
-  pub day : ℕ
-
-abbrev pub nameGiven : Given → AnswerName
-nameGiven g = nameOf (g .answer) (g .day)
-
--- from one store to another by these appends, none of them refused
-pub data Appends : List Given → List ℕ → List ℕ → Type 0 where
-  none : {s : List ℕ} → Appends [] s s
-  more : {g : Given} {gs : List Given} {s r : List ℕ} → appendNumber narrow (g .answer) (g .day) s ≡ 0 → g .day < 4294967296
-      → Appends gs (appendOut narrow (g .answer) (g .day) s) r → Appends (g ∷ gs) s r
-
-pub appends-unbroken : {gs : List Given} {s r : List ℕ} → Appends gs s r → storeNumber narrow s ≡ 0 → storeNumber narrow r ≡ 0
+pub appends-unbroken : {gs : List ToAppend} {s r : List ℕ} → Appends gs s r → storeNumber narrow s ≡ 0 → storeNumber narrow r ≡ 0
 appends-unbroken none z = z
 appends-unbroken (more {g} {gs} {s} {r} taken small rest) z = appends-unbroken rest (append-unbroken (g .answer) (g .day) s taken small)
 
 -- the count grows by the length of the list
-pub appends-count : {gs : List Given} {s r : List ℕ} → Appends gs s r → answers narrow r ≡ answers narrow s + length gs
+pub appends-count : {gs : List ToAppend} {s r : List ℕ} → Appends gs s r → answers narrow r ≡ answers narrow s + length gs
 appends-count none = omega arith
 appends-count (more {g} {gs} {s} {r} taken small rest) = omega (arith, appends-count rest, after-count (g .answer) (g .day) s taken small)
 
 -- the answers held before stay
-pub appends-keep : {gs : List Given} {s r : List ℕ} → Appends gs s r → (i : ℕ) → i < answers narrow s → (nameAt narrow i r ≡ nameAt narrow i s) × (answerAt narrow i r ≡ answerAt narrow i s)
+pub appends-keep : {gs : List ToAppend} {s r : List ℕ} → Appends gs s r → (i : ℕ) → i < answers narrow s
+    → (nameAt narrow i r ≡ nameAt narrow i s) × (answerAt narrow i r ≡ answerAt narrow i s)
 appends-keep none i h = (refl, refl)
 appends-keep (more {g} {gs} {s} {r} taken small rest) i h =
     let k = appends-keep rest i (omega (arith, after-count (g .answer) (g .day) s taken small)) in
     (k .0 ∙ name-kept (g .answer) (g .day) s taken small i h, k .1 ∙ answer-kept (g .answer) (g .day) s taken small i h)
 
 -- the appended ones stand behind them in order
-pub appends-hold : {gs : List Given} {s r : List ℕ} → Appends gs s r → (i : ℕ) (g₀ : Given) → i < length gs
-    → (nameAt narrow (answers narrow s + i) r ≡ nameGiven (getD gs i g₀)) × (answerAt narrow (answers narrow s + i) r ≡ getD gs i g₀ .answer)
+pub appends-hold : {gs : List ToAppend} {s r : List ℕ} → Appends gs s r → (i : ℕ) (g₀ : ToAppend) → i < length gs
+    → (nameAt narrow (answers narrow s + i) r ≡ nameFor (getD gs i g₀)) × (answerAt narrow (answers narrow s + i) r ≡ getD gs i g₀ .answer)
 appends-hold none i g₀ h = absurd (omega arith)
 appends-hold (more {g} {gs} {s} {r} taken small rest) zero g₀ h =
     let k = appends-keep rest (answers narrow s) (omega (arith, after-count (g .answer) (g .day) s taken small)) in
@@ -233,29 +222,37 @@ appends-hold (more {g} {gs} {s} {r} taken small rest) (suc i) g₀ h =
     rw e (appends-hold rest i g₀ (omega arith))
 
 -- the stream is what the store had and the appended answers, back to back
-abbrev pub backToBack : List Given → List ℕ
-backToBack [] = []
-backToBack (g ∷ gs) = g .answer ++ backToBack gs
-
-pub appends-stream : {gs : List Given} {s r : List ℕ} → Appends gs s r → streamPart narrow r ≡ streamPart narrow s ++ backToBack gs
+pub appends-stream : {gs : List ToAppend} {s r : List ℕ} → Appends gs s r → streamPart narrow r ≡ streamPart narrow s ++ backToBack gs
 appends-stream {gs} {s} none = sym (append-nil (streamPart narrow s))
 appends-stream (more {g} {gs} {s} {r} taken small rest) =
     appends-stream rest
     ∙ ap (λ (x : List ℕ). x ++ backToBack gs) (stream-grows (g .answer) (g .day) s taken small)
     ∙ append-assoc (streamPart narrow s) (g .answer) (backToBack gs)
 
--- a store built on an empty one reads back the list, in order
-pub record ReadsBack (gs : List Given) (r : List ℕ) : Type 0 where
-  pub whole : storeNumber narrow r ≡ 0
-  pub count : answers narrow r ≡ length gs
-  pub names : (i : ℕ) (g₀ : Given) → i < length gs → nameAt narrow i r ≡ nameGiven (getD gs i g₀)
-  pub held : (i : ℕ) (g₀ : Given) → i < length gs → answerAt narrow i r ≡ getD gs i g₀ .answer
+-- without answers there is no stream
+pub empty-stream : (s : List ℕ) → storeNumber narrow s ≡ 0 → answers narrow s ≡ 0 → streamLength narrow s ≡ 0
+unfolding placesRight
+empty-stream s z e = sym (eqb-true 0 (streamLength narrow s) (rw e at (unbroken s z .places)))
 
-pub reads-back : {gs : List Given} {s r : List ℕ} → Appends gs s r → storeNumber narrow s ≡ 0 → answers narrow s ≡ 0 → ReadsBack gs r
-reads-back {gs} {s} {r} built z e =
-    record {
-      whole = appends-unbroken built z;
-      count = omega (arith, appends-count built);
-      names = λ i g₀ h. rw (e, zero-add) at (appends-hold built i g₀ h .0);
-      held = λ i g₀ h. rw (e, zero-add) at (appends-hold built i g₀ h .1);
-    }
+-- a store built on an empty one reads back the list, in order
+module _ {gs : List ToAppend} {s r : List ℕ} (built : Appends gs s r) (z : storeNumber narrow s ≡ 0) (e : answers narrow s ≡ 0) where
+  many : answers narrow r ≡ length gs
+  many = omega (arith, appends-count built)
+
+  named : (i : ℕ) (g₀ : ToAppend) → i < length gs → nameAt narrow i r ≡ nameFor (getD gs i g₀)
+  named i g₀ h = rw (e, zero-add) at (appends-hold built i g₀ h .0)
+
+  answered : (i : ℕ) (g₀ : ToAppend) → i < length gs → answerAt narrow i r ≡ getD gs i g₀ .answer
+  answered i g₀ h = rw (e, zero-add) at (appends-hold built i g₀ h .1)
+
+  looked-up : (i : ℕ) (g₀ : ToAppend) → i < length gs → lookupPart narrow (nameFor (getD gs i g₀)) r ≡ getD gs i g₀ .answer
+  looked-up i g₀ h = rw (named i g₀ h) at (lookup-of r (appends-unbroken built z) i (omega (arith, many))) ∙ answered i g₀ h
+
+  no-stream : streamPart narrow s ≡ []
+  no-stream = stream-part s z ∙ rw (empty-stream s z e)
+
+  streamed : streamPart narrow r ≡ backToBack gs
+  streamed = appends-stream built ∙ ap (λ (x : List ℕ). x ++ backToBack gs) no-stream
+
+  pub reads-back : ReadsBack gs r
+  reads-back = record { unbroken = appends-unbroken built z; count = many; names = named; held = answered; lookups = looked-up; stream = streamed }

@@ -3,3 +3,4 @@ pub mod Layout
 pub mod Check
 pub mod Read
 pub mod Append
+pub mod Claims
