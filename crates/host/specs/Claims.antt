@@ -11,7 +11,7 @@ use Rattle.octets.specs.declared.Written.{Written}
 use Rattle.catalog.specs.declared.AnswerName.{AnswerName}
 use Rattle.store.specs.Layout.{narrow}
 use Rattle.store.specs.Check.{storeNumber}
-use Rattle.records.specs.Written.{Bytes}
+use Rattle.octets.specs.Buffer.{Bytes}
 use Rattle.unit.specs.declared.UnitState.{UnitState}
 use Rattle.unit.specs.declared.UnitReply.{UnitReply}
 use Rattle.tool.specs.declared.ToolState.{ToolState}

@@ -8,7 +8,8 @@ use Rattle.octets.specs.Order.{orElse}
 use Rattle.octets.specs.Numbers.{done, notArrays, noSuch}
 use Rattle.records.specs.Arrays.{arrayCount, arrayAt, recordPlace, arrayRecords, recordOf}
 use Rattle.records.specs.View.{Shown, viewed, viewNumber, viewRecord, viewRecordNumber}
-use Rattle.records.specs.Written.{RecordArray, noRecords, AllSound, joined, written, arraysRead, Bytes}
+use Rattle.octets.specs.Buffer.{Bytes}
+use Rattle.records.specs.Written.{RecordArray, noRecords, AllSound, joined, written, arraysRead}
 
 pub record RecordsClaims : Type 0 where
   -- a list of arrays, written, is a body: the whole list is read back

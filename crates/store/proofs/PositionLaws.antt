@@ -14,7 +14,7 @@ use Rattle.catalog.proofs.NameLaws.{same-self, same-is}
 use Rattle.store.specs.Layout.{narrow, answers, nameAt}
 use Rattle.store.specs.Check.{namedFrom}
 use Rattle.store.specs.Read.{positionFrom, position}
-pub use Rattle.store.specs.Claims.{HeldAs, Missing}
+use Rattle.store.specs.Claims.{HeldAs, Missing}
 
 -- the entry that it stops at has the name
 pub position-named : (k i : ℕ) (name : AnswerName) (s : List ℕ) → positionFrom narrow k i name s < i + k → nameAt narrow (positionFrom narrow k i name s) s ≡ name

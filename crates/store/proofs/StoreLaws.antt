@@ -19,10 +19,11 @@ use Rattle.catalog.proofs.NameLaws.{allowed}
 use Rattle.catalog.specs.declared.AnswerName.{AnswerName}
 use Rattle.store.specs.Layout.{narrow, answers, streamLength, storeLength, entryOffset, entryLength, answerStart, streamOf, answerAt, nameAt}
 use Rattle.store.specs.Check.{headerFits, countsFit, placeRight, placesRight, answerRight, answersRight, namedFrom, namesDiffer, storeNumber}
+use Rattle.store.specs.Claims.{Missing}
 use Rattle.store.specs.Read.{positionFrom, position, lookupNumber, lookupPlace, lookupPart, streamPlace, streamPart}
 use Rattle.octets.proofs.OrderLaws.{Both, unless-is, unless-fails, unless-either, or-zero, or-is}
 use Rattle.octets.proofs.PartLaws.{byte-in}
-use Rattle.store.proofs.PositionLaws.{position-named, position-first, named-position, Missing, position-missing}
+use Rattle.store.proofs.PositionLaws.{position-named, position-first, named-position, position-missing}
 
 -- The five checks that number 0 stands for
 
