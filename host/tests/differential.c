@@ -73,7 +73,7 @@ static unsigned long all_given(unsigned long rounds)
             fprintf(stderr, "%s never gave %d\n", CALL[c].name, *n);
             missing++;
         }
-    if (missing) fail("%u numbers of calls were not reached in %lu rounds", missing, rounds);
+    if (missing) fail("the inputs of %lu rounds do not reach %u of the numbers of the calls", rounds, missing);
     return calls;
 }
 
