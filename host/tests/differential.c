@@ -1,6 +1,7 @@
 /*
- * Every call of tacho.h against the plain C reference, on random, valid and damaged inputs in random states: the same results and the same
- * bytes in every buffer, inputs untouched, nothing changed by a refused call, no byte outside the buffers touched.
+ * Every call of tacho.h against the plain C reference, on random, valid and damaged inputs in random states: the same
+ * results and the same bytes in every buffer, inputs untouched, nothing changed by a refused call, no byte outside the
+ * buffers touched. Each call gives each of its numbers, and no other.
  *
  *   differential [ROUNDS [SEED]]
  */
@@ -14,8 +15,98 @@
 
 enum { LONGEST = 60600 };
 
-static unsigned long calls;
-static unsigned long by_number[13];
+/* The calls of tacho.h with the numbers of document 01 that each can give, 0 first, then in the order of its checks. */
+typedef enum {
+    CHECKSUM, FRAME_CHECK, FRAME_DATA, FRAME_WRITE, SUB_MESSAGES, SUB_MESSAGE, STORE_CHECK, STORE_LOOKUP, STORE_STREAM,
+    STORE_APPEND, ARRAY_COUNT, ARRAY_AT, RECORD_AT, UNIT_FRESH, UNIT_STEP, TOOL_FRESH, TOOL_BEGIN, TOOL_ARRIVED,
+    TOOL_WAIT_ENDED, CALLS
+} call;
+
+enum { NUMBERS = 13, END = -1 };
+
+static const struct {
+    const char *name;
+    int numbers[8];
+} CALL[CALLS] = {
+    [CHECKSUM] = {"tacho_checksum", {0, END}}, /* it gives no number; 0 says that it was called */
+    [FRAME_CHECK] = {"tacho_frame_check", {0, 1, 2, 3, END}},
+    [FRAME_DATA] = {"tacho_frame_data", {0, 1, 2, 3, END}},
+    [FRAME_WRITE] = {"tacho_frame_write", {0, 1, 4, END}},
+    [SUB_MESSAGES] = {"tacho_sub_messages", {0, 8, END}},
+    [SUB_MESSAGE] = {"tacho_sub_message", {0, 8, 10, 4, END}},
+    [STORE_CHECK] = {"tacho_store_check", {0, 5, END}},
+    [STORE_LOOKUP] = {"tacho_store_lookup", {0, 5, 6, END}},
+    [STORE_STREAM] = {"tacho_store_stream", {0, 5, END}},
+    [STORE_APPEND] = {"tacho_store_append", {0, 5, 12, 7, 8, 4, END}},
+    [ARRAY_COUNT] = {"tacho_array_count", {0, 9, END}},
+    [ARRAY_AT] = {"tacho_array_at", {0, 9, 10, END}},
+    [RECORD_AT] = {"tacho_record_at", {0, 9, 10, END}},
+    [UNIT_FRESH] = {"tacho_unit_fresh", {0, 11, 4, END}},
+    [UNIT_STEP] = {"tacho_unit_step", {0, 5, 11, 4, 1, 2, 3, END}},
+    [TOOL_FRESH] = {"tacho_tool_fresh", {0, 4, END}},
+    [TOOL_BEGIN] = {"tacho_tool_begin", {0, 12, 11, 4, END}},
+    [TOOL_ARRIVED] = {"tacho_tool_arrived", {0, 11, 4, END}},
+    [TOOL_WAIT_ENDED] = {"tacho_tool_wait_ended", {0, 11, 4, END}},
+};
+
+static unsigned long given[CALLS][NUMBERS];
+
+static void count_number(call c, unsigned number)
+{
+    for (const int *n = CALL[c].numbers; *n != END; n++)
+        if (number == (unsigned)*n) {
+            given[c][number]++;
+            return;
+        }
+    fail("%s gave %u, which is not among its numbers", CALL[c].name, number);
+}
+
+/* A number that a call never gave was not compared there: the inputs have to reach it. Gives the count of all calls. */
+static unsigned long all_given(unsigned long rounds)
+{
+    unsigned long calls = 0;
+    unsigned missing = 0;
+    for (int c = 0; c < CALLS; c++)
+        for (const int *n = CALL[c].numbers; *n != END; n++) {
+            calls += given[c][*n];
+            if (given[c][*n]) continue;
+            fprintf(stderr, "%s never gave %d\n", CALL[c].name, *n);
+            missing++;
+        }
+    if (missing) fail("the inputs of %lu rounds do not reach %u of the numbers of the calls", rounds, missing);
+    return calls;
+}
+
+/* A result: its number, then its other fields. */
+typedef struct {
+    unsigned number;
+    size_t fields[5];
+} result;
+
+static result of_number(uint8_t n)
+{
+    return (result){n, {0}};
+}
+
+static result of_written(tacho_written w)
+{
+    return (result){w.number, {w.len}};
+}
+
+static result of_counted(tacho_counted c)
+{
+    return (result){c.number, {c.count}};
+}
+
+static result of_part(tacho_part p)
+{
+    return (result){p.number, {p.start, p.len}};
+}
+
+static result of_array(tacho_array a)
+{
+    return (result){a.number, {a.start, a.len, a.type, a.size, a.count}};
+}
 
 /* Buffers lent to the proved call, and the copies that the reference gets. */
 static guard lent[4];
@@ -36,18 +127,24 @@ static void hex(const char *name, const uint8_t *b, size_t n)
     fprintf(stderr, n > 64 ? " ..\n" : "\n");
 }
 
-/* The buffers of a call: as the reference left them, and as they were where the call was refused. */
-static void compare(const char *call, int buffers, unsigned number, unsigned wanted, size_t a, size_t wanted_a, size_t b, size_t wanted_b)
+static void show(const char *what, result r)
 {
-    calls++;
-    if (number < 13) by_number[number]++;
-    bool same = number == wanted && a == wanted_a && b == wanted_b;
+    fprintf(stderr, "%s: number %u, fields", what, r.number);
+    for (int i = 0; i < 5; i++) fprintf(stderr, " %zu", r.fields[i]);
+    fprintf(stderr, "\n");
+}
+
+/* The result and the buffers of a call: as the reference has them, and the buffers unchanged by a refused call. */
+static void compare(call c, int buffers, result gave, result wanted)
+{
+    count_number(c, gave.number);
+    bool same = gave.number == wanted.number && memcmp(gave.fields, wanted.fields, sizeof gave.fields) == 0;
     for (int i = 0; i < buffers; i++) {
-        guard_check(&lent[i], call);
+        guard_check(&lent[i], CALL[c].name);
         same = same && memcmp(lent[i].at, copy[i], lent[i].len) == 0;
-        if (number != 0 && memcmp(lent[i].at, before[i], lent[i].len)) {
+        if (gave.number != 0 && memcmp(lent[i].at, before[i], lent[i].len)) {
             hex("buffer", before[i], lent[i].len);
-            fail("%s: refused by %u, and buffer %d has changed", call, number, i);
+            fail("%s: refused by %u, and buffer %d has changed", CALL[c].name, gave.number, i);
         }
     }
     if (same) return;
@@ -56,7 +153,9 @@ static void compare(const char *call, int buffers, unsigned number, unsigned wan
         hex("  after", lent[i].at, lent[i].len);
         hex("  wanted", copy[i], lent[i].len);
     }
-    fail("%s: gave %u, %zu, %zu; the reference %u, %zu, %zu", call, number, a, b, wanted, wanted_a, wanted_b);
+    show("gave", gave);
+    show("wanted", wanted);
+    fail("%s differs from the reference", CALL[c].name);
 }
 
 /* Inputs */
@@ -77,8 +176,10 @@ static uint32_t some_day(uint8_t trep)
 
 static size_t some_length(size_t most)
 {
-    static const size_t edges[] = {0, 1, 2, 3, 4, 5, 6, 250, 251, 252, 253, 254, 255, 256, 259, 260, 261, 501, 502, 503, 753, 59997, 59998, 59999, 60000, 60001};
-    size_t n = random_below(3) ? edges[random_below(sizeof edges / sizeof *edges)] : random_below(random_below(8) ? 600 : 60001);
+    static const size_t edges[] = {0, 1, 2, 3, 4, 5, 6, 250, 251, 252, 253, 254, 255, 256, 259, 260, 261, 501, 502, 503,
+                                   753, 59997, 59998, 59999, 60000, 60001};
+    size_t n = random_below(random_below(8) ? 600 : 60001);
+    if (random_below(3)) n = edges[random_below(sizeof edges / sizeof *edges)];
     return n < most ? n : most;
 }
 
@@ -99,61 +200,89 @@ static void damage(uint8_t *b, size_t *n, size_t room)
     }
 }
 
-/* The data of a request or reply, often a good one. */
-static size_t some_data(uint8_t *d, bool to_tool)
+/* A 16-bit number of a frame: mostly near the one last sent or expected; else FFFF, 0, any, or one bit off. */
+static uint16_t some_number(uint16_t near)
 {
-    static const uint8_t requests[][10] = {{0x10, 0x81}, {0x35, 0, 0, 0, 0, 0, 0xFF, 0xFF, 0xFF, 0xFF}, {0x37}, {0x82}, {0x87, 1, 1, 3}, {0x87, 2, 3}, {0x81}, {0x87, 5, 0}};
-    static const size_t request_lengths[] = {2, 10, 1, 1, 4, 3, 1, 3};
+    switch (random_below(9)) {
+    case 0: return 0xFFFF;
+    case 1: return 0;
+    case 2: return (uint16_t)random_below(0x10000);
+    case 3: return (uint16_t)((random_below(2) ? near : 0xFFFF) ^ 1u << random_below(16));
+    default: return (uint16_t)(near + random_below(4) - 1);
+    }
+}
+
+/* The data of a reply, often a good one; a sub message's number lies near the one given. */
+static size_t some_reply(uint8_t *d, uint16_t near)
+{
     static const uint8_t replies[][3] = {{0xC1, 0xEA, 0x8F}, {0x50, 0x81}, {0x75, 0, 0xFF}, {0x77}, {0xC2}, {0xC7, 1}};
     static const uint8_t reply_lengths[] = {3, 2, 3, 1, 1, 2};
     static const uint8_t sids[] = {0x81, 0x10, 0x35, 0x36, 0x37, 0x82, 0x83};
     static const uint8_t codes[] = {0x10, 0x11, 0x12, 0x13, 0x22, 0x31, 0x78, 0xFA, 0};
-    size_t n;
-    uint32_t kind = random_below(8);
-    if (kind == 0) {
-        n = some_length(255);
-        random_bytes(d, n);
-    } else if (to_tool && kind < 3) {
-        uint32_t i = random_below(6);
-        n = reply_lengths[i];
-        memcpy(d, replies[i], n);
-    } else if (to_tool && kind < 4) {
-        n = 3;
+    uint32_t kind = random_below(7), i = random_below(6);
+    if (kind < 2) {
+        memcpy(d, replies[i], reply_lengths[i]);
+        return reply_lengths[i];
+    }
+    if (kind < 3) {
         d[0] = 0x7F;
         d[1] = sids[random_below(sizeof sids)];
         d[2] = codes[random_below(sizeof codes)];
-    } else if (to_tool) {
-        n = random_below(3) ? 255 : 2 + random_below(254);
-        random_bytes(d, n);
-        d[0] = 0x76;
-        d[1] = some_trep();
-        if (n > 3) d[2] = 0, d[3] = (uint8_t)random_below(random_below(4) ? 4 : 256);
-    } else if (kind < 4) {
-        uint32_t i = random_below(8);
-        n = request_lengths[i];
-        memcpy(d, requests[i], n);
-        if (n == 4) d[3] = (uint8_t)random_below(7);
-    } else if (kind < 6) {
+        return 3;
+    }
+    /* full, the end mark, or any */
+    size_t n = random_below(3) ? 255 : random_below(4) ? 2 + random_below(254) : 4;
+    uint16_t number = some_number(near);
+    random_bytes(d, n);
+    d[0] = 0x76;
+    d[1] = some_trep();
+    if (n > 3) d[2] = (uint8_t)(number >> 8), d[3] = (uint8_t)number;
+    return n;
+}
+
+/* The data of a request, often a good one; an acknowledge code lies near the number given. */
+static size_t some_request(uint8_t *d, uint16_t near)
+{
+    static const uint8_t requests[][10] = {{0x10, 0x81}, {0x35, 0, 0, 0, 0, 0, 0xFF, 0xFF, 0xFF, 0xFF},
+                                           {0x37}, {0x82}, {0x87, 1, 1, 3}, {0x87, 2, 3}, {0x81}, {0x87, 5, 0}};
+    static const size_t request_lengths[] = {2, 10, 1, 1, 4, 3, 1, 3};
+    uint32_t kind = random_below(7), i = random_below(8);
+    if (kind < 3) {
+        memcpy(d, requests[i], request_lengths[i]);
+        if (request_lengths[i] == 4) d[3] = (uint8_t)random_below(7);
+        return request_lengths[i];
+    }
+    if (kind < 5) {
         uint8_t trep = some_trep();
         uint32_t day = some_day(trep);
         uint8_t b[6] = {0x36, trep, (uint8_t)(day >> 24), (uint8_t)(day >> 16), (uint8_t)(day >> 8), (uint8_t)day};
-        n = (trep & 0x0F) == 2 ? 6 : 2;
-        memcpy(d, b, n);
+        memcpy(d, b, sizeof b);
+        return (trep & 0x0F) == 2 ? 6 : 2;
+    }
+    uint16_t code = some_number(near);
+    uint8_t b[4] = {0x83, 0x76, (uint8_t)(code >> 8), (uint8_t)code};
+    memcpy(d, b, sizeof b);
+    return 4;
+}
+
+static size_t some_data(uint8_t *d, bool to_tool, uint16_t near)
+{
+    size_t n;
+    if (random_below(8) == 0) {
+        n = some_length(255);
+        random_bytes(d, n);
     } else {
-        uint32_t code = random_below(8) ? random_below(5) : 0xFFFF;
-        uint8_t b[4] = {0x83, 0x76, (uint8_t)(code >> 8), (uint8_t)code};
-        n = 4;
-        memcpy(d, b, n);
+        n = to_tool ? some_reply(d, near) : some_request(d, near);
     }
     if (random_below(8) == 0) damage(d, &n, 255);
     return n;
 }
 
-static size_t some_frame(uint8_t *f, bool to_tool)
+static size_t some_frame(uint8_t *f, bool to_tool, uint16_t near)
 {
     static const uint8_t start[5] = {0x81, 0xEE, 0xF0, 0x81, 0xE0};
     uint8_t d[256];
-    size_t n = some_data(d, to_tool);
+    size_t n = some_data(d, to_tool, near);
     if (!to_tool && random_below(8) == 0) {
         memcpy(f, start, 5);
         n = 5;
@@ -168,20 +297,29 @@ static size_t some_frame(uint8_t *f, bool to_tool)
     return n;
 }
 
-/* A store of a few answers; sometimes damaged. The answers often lie around the lengths where splitting changes. */
-static size_t some_store(uint8_t *s)
+/* Answers in an empty store: a few, often around the lengths where splitting changes; many short ones; or 64. */
+static void some_answers(uint8_t *s, size_t room)
 {
     static uint8_t answer[60001];
-    size_t room = random_below(4) ? 2000 : LONGEST;
-    memset(s, 0, room);
-    uint32_t answers = random_below(3) ? random_below(5) : random_below(70);
+    static const uint8_t dated[] = {0x02, 0x22, 0x32};
+    bool full = random_below(200) == 0;
+    uint32_t answers = full ? 64 : random_below(3) ? random_below(5) : random_below(70);
     for (uint32_t i = 0; i < answers; i++) {
         size_t n = answers > 5 ? 2 + random_below(8) : 2 + some_length(random_below(20) ? 800 : 59998);
         random_bytes(answer, n);
         answer[0] = 0x76;
-        answer[1] = TREPS[random_below(sizeof TREPS)];
-        ref_store_append(s, room, answer, n, (answer[1] & 0x0F) == 2 ? 86400 * random_below(40) : 0);
+        answer[1] = full ? dated[random_below(3)] : TREPS[random_below(sizeof TREPS)];
+        uint32_t day = full ? i : random_below(40);
+        ref_store_append(s, room, answer, n, (answer[1] & 0x0F) == 2 ? 86400 * day : 0);
     }
+}
+
+/* A store, sometimes damaged or with bytes behind it. */
+static size_t some_store(uint8_t *s)
+{
+    size_t room = random_below(4) ? 2000 : LONGEST;
+    memset(s, 0, room);
+    some_answers(s, room);
     size_t n = 4 + 8 * (size_t)(s[0] << 8 | s[1]) + (size_t)(s[2] << 8 | s[3]);
     if (random_below(5) == 0) damage(s, &n, room);
     if (random_below(4) == 0 && n + 20 < room) {
@@ -205,22 +343,40 @@ static void name_in(const uint8_t *s, size_t n, uint8_t *trep, uint32_t *day)
     *trep = s[4 + 8 * answers + (uint32_t)(e[4] << 8 | e[5]) + 1];
 }
 
+/* The name of an answer that is split, and how many sub messages it takes; 0 where the store shows none. */
+static size_t split_in(const uint8_t *s, size_t n, uint8_t *trep, uint32_t *day)
+{
+    for (int tries = 0; tries < 3; tries++) {
+        name_in(s, n, trep, day);
+        tacho_part a = ref_store_lookup(s, n, *trep, *day);
+        if (a.number == 0 && a.len - 2 > 252) return ref_sub_messages(a.len - 2).count;
+    }
+    return 0;
+}
+
+/* Bytes 4 to 10 of a unit that sends: mostly one of the answer's sub messages, often the last. */
+static void some_sending(uint8_t *b, uint8_t trep, uint32_t day, size_t count)
+{
+    uint32_t last = random_below(3) ? 1 + random_below((uint32_t)count) : (uint32_t)count;
+    if (random_below(8) == 0) last = some_number((uint16_t)count);
+    uint8_t rest[7] = {trep, (uint8_t)(day >> 24), (uint8_t)(day >> 16), (uint8_t)(day >> 8), (uint8_t)day,
+                       (uint8_t)(last >> 8), (uint8_t)last};
+    memcpy(b + 4, rest, 7);
+}
+
+/* A unit's state: often sending, if the store shows an answer to send. */
 static size_t some_unit_state(uint8_t *b, const uint8_t *store, size_t store_len)
 {
-    size_t n = TACHO_UNIT_STATE;
     uint8_t trep;
     uint32_t day;
+    size_t n = TACHO_UNIT_STATE, count = split_in(store, store_len, &trep, &day);
     memset(b, 0, 16);
     b[0] = (uint8_t)random_below(random_below(20) ? 3 : 5);
     b[1] = (uint8_t)(random_below(20) ? 1 + random_below(5) : random_below(256));
     b[2] = (uint8_t)(random_below(20) ? random_below(6) : random_below(256));
     b[3] = (uint8_t)(random_below(20) ? random_below(5) : random_below(256));
-    if (b[3] == TACHO_SENDING) {
-        name_in(store, store_len, &trep, &day);
-        uint32_t last = random_below(4) ? 1 + random_below(3) : random_below(300);
-        uint8_t rest[7] = {trep, (uint8_t)(day >> 24), (uint8_t)(day >> 16), (uint8_t)(day >> 8), (uint8_t)day, (uint8_t)(last >> 8), (uint8_t)last};
-        memcpy(b + 4, rest, 7);
-    }
+    if (count > 0 && random_below(3) == 0) b[3] = TACHO_SENDING;
+    if (b[3] == TACHO_SENDING) some_sending(b, trep, day, count);
     if (random_below(20) == 0) damage(b, &n, 16);
     return n;
 }
@@ -240,7 +396,8 @@ static size_t some_tool_state(uint8_t *b)
         uint8_t name[5] = {trep, (uint8_t)(day >> 24), (uint8_t)(day >> 16), (uint8_t)(day >> 8), (uint8_t)day};
         memcpy(b + 3, name, 5);
         b[9] = (uint8_t)(expected >> 8), b[10] = (uint8_t)expected;
-        b[11] = (uint8_t)(held >> 24), b[12] = (uint8_t)(held >> 16), b[13] = (uint8_t)(held >> 8), b[14] = (uint8_t)held;
+        b[11] = (uint8_t)(held >> 24), b[12] = (uint8_t)(held >> 16);
+        b[13] = (uint8_t)(held >> 8), b[14] = (uint8_t)held;
     }
     if (random_below(25) == 0) damage(b, &n, 20);
     return n;
@@ -250,7 +407,8 @@ static size_t some_body(uint8_t *b)
 {
     size_t n = 0;
     for (uint32_t arrays = random_below(6); arrays > 0; arrays--) {
-        uint32_t size = random_below(20) ? 1 + random_below(40) : random_below(300), count = random_below(12);
+        uint32_t size = random_below(20) ? 1 + random_below(40) : random_below(300);
+        uint32_t count = random_below(12);
         if (n + 5 + size * count > 4000) break;
         random_bytes(b + n, 5 + size * count);
         b[n + 1] = (uint8_t)(size >> 8), b[n + 2] = (uint8_t)size;
@@ -261,6 +419,12 @@ static size_t some_body(uint8_t *b)
     return n;
 }
 
+/* Bytes 9 and 10 of a packed state: the number that the unit sent last, or that the tool expects. */
+static uint16_t number_of(const uint8_t *state, size_t len)
+{
+    return len > 10 ? (uint16_t)(state[9] << 8 | state[10]) : 0;
+}
+
 /* One round of each call */
 
 static uint8_t bytes[LONGEST], more[LONGEST];
@@ -268,31 +432,53 @@ static uint8_t bytes[LONGEST], more[LONGEST];
 static void frames(void)
 {
     bool to_tool = random_below(2), at_tool = random_below(8) ? to_tool : !to_tool;
-    size_t n = some_frame(bytes, to_tool);
+    size_t n = some_frame(bytes, to_tool, 1);
     const uint8_t *f = lend(0, bytes, n);
-    compare("tacho_checksum", 1, 0, 0, tacho_checksum(f, n), ref_checksum(copy[0], n), 0, 0);
-    compare("tacho_frame_check", 1, tacho_frame_check(f, n, at_tool), ref_frame_check(copy[0], n, at_tool), 0, 0, 0, 0);
+    compare(CHECKSUM, 1, (result){0, {tacho_checksum(f, n)}}, (result){0, {ref_checksum(copy[0], n)}});
+    uint8_t a = tacho_frame_check(f, n, at_tool), b = ref_frame_check(copy[0], n, at_tool);
+    compare(FRAME_CHECK, 1, of_number(a), of_number(b));
     tacho_part p = tacho_frame_data(f, n, at_tool), q = ref_frame_data(copy[0], n, at_tool);
-    compare("tacho_frame_data", 1, p.number, q.number, p.start, q.start, p.len, q.len);
+    compare(FRAME_DATA, 1, of_part(p), of_part(q));
     n = random_below(8) ? some_length(300) : random_below(4);
     const uint8_t *d = lend(0, NULL, n);
     size_t room = some_length(300);
     uint8_t *out = lend(1, NULL, room);
-    tacho_written w = tacho_frame_write(d, n, to_tool, out, room), v = ref_frame_write(copy[0], n, to_tool, copy[1], room);
-    compare("tacho_frame_write", 2, w.number, v.number, w.len, v.len, 0, 0);
+    tacho_written w = tacho_frame_write(d, n, to_tool, out, room);
+    tacho_written v = ref_frame_write(copy[0], n, to_tool, copy[1], room);
+    compare(FRAME_WRITE, 2, of_written(w), of_written(v));
 }
 
 static void splitting(void)
 {
     size_t n = some_length(random_below(8) ? 1000 : 60001), room = random_below(4) ? 260 : some_length(270);
-    uint16_t k = (uint16_t)(random_below(4) ? random_below(6) : random_below(300));
+    tacho_counted c = ref_sub_messages(n);
+    uint16_t k = random_below(2) ? some_number((uint16_t)c.count) : (uint16_t)(1 + random_below((uint32_t)c.count));
     uint8_t trep = some_trep();
-    tacho_counted c = tacho_sub_messages(n), e = ref_sub_messages(n);
-    compare("tacho_sub_messages", 0, c.number, e.number, c.count, e.count, 0, 0);
+    compare(SUB_MESSAGES, 0, of_counted(tacho_sub_messages(n)), of_counted(c));
     const uint8_t *d = lend(0, NULL, n);
     uint8_t *out = lend(1, NULL, room);
-    tacho_written w = tacho_sub_message(d, n, trep, k, out, room), v = ref_sub_message(copy[0], n, trep, k, copy[1], room);
-    compare("tacho_sub_message", 2, w.number, v.number, w.len, v.len, 0, 0);
+    tacho_written w = tacho_sub_message(d, n, trep, k, out, room);
+    tacho_written v = ref_sub_message(copy[0], n, trep, k, copy[1], room);
+    compare(SUB_MESSAGE, 2, of_written(w), of_written(v));
+}
+
+static void appending(size_t n, uint8_t trep, uint32_t day)
+{
+    size_t a = random_below(8) ? 2 + random_below(300) : some_length(60001);
+    /* sometimes an answer with which the stream is 60,000 bytes long, or just not */
+    size_t stream = ref_store_stream(bytes, n).len;
+    if (random_below(32) == 0 && stream < 60000) a = 59999 - stream + random_below(4);
+    size_t room = n + (random_below(4) ? 8 + a : random_below(400));
+    if (room > LONGEST) room = LONGEST;
+    if (room > n) random_bytes(bytes + n, room - n);
+    uint8_t *store = lend(0, bytes, room);
+    random_bytes(more, a);
+    if (a > 1 && random_below(12)) more[0] = 0x76, more[1] = trep;
+    const uint8_t *answer = lend(1, more, a);
+    if (random_below(3)) day = some_day(trep);
+    tacho_written w = tacho_store_append(store, room, answer, a, day);
+    tacho_written v = ref_store_append(copy[0], room, copy[1], a, day);
+    compare(STORE_APPEND, 2, of_written(w), of_written(v));
 }
 
 static void stores(void)
@@ -301,22 +487,13 @@ static void stores(void)
     uint32_t day;
     size_t n = some_store(bytes);
     const uint8_t *s = lend(0, bytes, n);
-    compare("tacho_store_check", 1, tacho_store_check(s, n), ref_store_check(copy[0], n), 0, 0, 0, 0);
+    compare(STORE_CHECK, 1, of_number(tacho_store_check(s, n)), of_number(ref_store_check(copy[0], n)));
     name_in(bytes, n, &trep, &day);
     tacho_part p = tacho_store_lookup(s, n, trep, day), q = ref_store_lookup(copy[0], n, trep, day);
-    compare("tacho_store_lookup", 1, p.number, q.number, p.start, q.start, p.len, q.len);
+    compare(STORE_LOOKUP, 1, of_part(p), of_part(q));
     p = tacho_store_stream(s, n), q = ref_store_stream(copy[0], n);
-    compare("tacho_store_stream", 1, p.number, q.number, p.start, q.start, p.len, q.len);
-    size_t a = random_below(8) ? 2 + random_below(300) : some_length(60001), room = n + (random_below(4) ? 8 + a : random_below(400));
-    if (room > LONGEST) room = LONGEST;
-    if (room > n) random_bytes(bytes + n, room - n);
-    uint8_t *buffer = lend(0, bytes, room);
-    random_bytes(more, a);
-    if (a > 1 && random_below(12)) more[0] = 0x76, more[1] = trep;
-    const uint8_t *answer = lend(1, more, a);
-    if (random_below(3)) day = some_day(trep);
-    tacho_written w = tacho_store_append(buffer, room, answer, a, day), v = ref_store_append(copy[0], room, copy[1], a, day);
-    compare("tacho_store_append", 2, w.number, v.number, w.len, v.len, 0, 0);
+    compare(STORE_STREAM, 1, of_part(p), of_part(q));
+    appending(n, trep, day);
 }
 
 static void arrays(void)
@@ -324,72 +501,85 @@ static void arrays(void)
     size_t n = some_body(bytes);
     const uint8_t *b = lend(0, bytes, n);
     size_t k = random_below(7), r = random_below(13);
-    tacho_counted c = tacho_array_count(b, n), e = ref_array_count(copy[0], n);
-    compare("tacho_array_count", 1, c.number, e.number, c.count, e.count, 0, 0);
-    tacho_array x = tacho_array_at(b, n, k), y = ref_array_at(copy[0], n, k);
-    compare("tacho_array_at", 1, x.number, y.number, x.start, y.start, x.len, y.len);
-    compare("tacho_array_at, header", 1, x.number, y.number, (size_t)x.type << 16 | x.size, (size_t)y.type << 16 | y.size, x.count, y.count);
-    tacho_part p = tacho_record_at(b, n, k, r), q = ref_record_at(copy[0], n, k, r);
-    compare("tacho_record_at", 1, p.number, q.number, p.start, q.start, p.len, q.len);
+    compare(ARRAY_COUNT, 1, of_counted(tacho_array_count(b, n)), of_counted(ref_array_count(copy[0], n)));
+    compare(ARRAY_AT, 1, of_array(tacho_array_at(b, n, k)), of_array(ref_array_at(copy[0], n, k)));
+    compare(RECORD_AT, 1, of_part(tacho_record_at(b, n, k, r)), of_part(ref_record_at(copy[0], n, k, r)));
 }
 
 static void units(void)
 {
-    uint8_t state[16], frame[300];
+    uint8_t state[16], frame[300], kind = (uint8_t)random_below(5);
     size_t n = some_store(bytes), state_len = some_unit_state(state, bytes, n);
-    uint8_t kind = (uint8_t)random_below(5);
-    size_t fresh_len = random_below(4) ? random_below(16) : 11;
-    uint8_t *fresh = lend(0, NULL, fresh_len);
-    compare("tacho_unit_fresh", 1, tacho_unit_fresh(kind, fresh, fresh_len), ref_unit_fresh(kind, copy[0], fresh_len), 0, 0, 0, 0);
-    uint8_t *s = lend(0, state, state_len);
+    size_t fresh_len = random_below(4) ? random_below(16) : TACHO_UNIT_STATE;
+    uint8_t *s = lend(0, NULL, fresh_len);
+    uint8_t a = tacho_unit_fresh(kind, s, fresh_len), b = ref_unit_fresh(kind, copy[0], fresh_len);
+    compare(UNIT_FRESH, 1, of_number(a), of_number(b));
+    s = lend(0, state, state_len);
     const uint8_t *store = lend(1, bytes, n);
     for (int step = 0; step < 6; step++) {
-        size_t frame_len = some_frame(frame, false), room = random_below(12) ? 260 + random_below(3) : random_below(260);
+        size_t frame_len = some_frame(frame, false, number_of(s, state_len));
+        size_t room = random_below(12) ? 260 + random_below(3) : random_below(260);
         if (step) s = lend(0, s, state_len), store = lend(1, store, n);
         const uint8_t *f = lend(2, frame, frame_len);
         uint8_t *reply = lend(3, NULL, room);
         tacho_written w = tacho_unit_step(s, state_len, store, n, f, frame_len, reply, room);
         tacho_written v = ref_unit_step(copy[0], state_len, copy[1], n, copy[2], frame_len, copy[3], room);
-        compare("tacho_unit_step", 4, w.number, v.number, w.len, v.len, 0, 0);
+        compare(UNIT_STEP, 4, of_written(w), of_written(v));
     }
+}
+
+/* One call of the tool, with its state (0), room (1) and output (2) lent. */
+
+static void tool_begins(uint8_t *s, size_t state_len, uint8_t *out, size_t out_len)
+{
+    uint8_t request = (uint8_t)(random_below(2) ? TACHO_TRANSFER : random_below(7));
+    uint8_t trep = request == TACHO_TRANSFER || random_below(6) == 0 ? some_trep() : 0;
+    uint32_t day = request == TACHO_TRANSFER || random_below(6) == 0 ? some_day(trep) : 0;
+    tacho_written w = tacho_tool_begin(s, state_len, request, trep, day, out, out_len);
+    tacho_written v = ref_tool_begin(copy[0], state_len, request, trep, day, copy[2], out_len);
+    compare(TOOL_BEGIN, 3, of_written(w), of_written(v));
+}
+
+static void tool_hears(uint8_t *s, size_t state_len, uint8_t *room, size_t room_len, uint8_t *out, size_t out_len)
+{
+    uint8_t frame[300];
+    size_t n = some_frame(frame, true, number_of(s, state_len));
+    /* often the sub message that is expected, so that whole transfers are walked through */
+    if (random_below(2) && n > 8 && state_len == TACHO_TOOL_STATE && frame[4] == 0x76) {
+        frame[5] = s[3], frame[6] = s[9], frame[7] = s[10];
+        frame[n - 1] = ref_checksum(frame, n - 1);
+    }
+    const uint8_t *f = lend(3, frame, n);
+    tacho_written w = tacho_tool_arrived(s, state_len, f, n, room, room_len, out, out_len);
+    tacho_written v = ref_tool_arrived(copy[0], state_len, copy[3], n, copy[1], room_len, copy[2], out_len);
+    compare(TOOL_ARRIVED, 4, of_written(w), of_written(v));
+}
+
+static void tool_waited(uint8_t *s, size_t state_len, uint8_t *room, size_t room_len, uint8_t *out, size_t out_len)
+{
+    tacho_written w = tacho_tool_wait_ended(s, state_len, room, room_len, out, out_len);
+    tacho_written v = ref_tool_wait_ended(copy[0], state_len, copy[1], room_len, copy[2], out_len);
+    compare(TOOL_WAIT_ENDED, 3, of_written(w), of_written(v));
 }
 
 static void tools(void)
 {
-    uint8_t state[20], frame[300];
-    size_t state_len = some_tool_state(state), fresh_len = random_below(4) ? random_below(20) : 15;
-    uint8_t *fresh = lend(0, NULL, fresh_len);
-    compare("tacho_tool_fresh", 1, tacho_tool_fresh(fresh, fresh_len), ref_tool_fresh(copy[0], fresh_len), 0, 0, 0, 0);
-    size_t room = random_below(3) ? 600 + random_below(400) : some_length(60001);
-    uint8_t *s = lend(0, state, state_len);
-    uint8_t *r = lend(1, NULL, room);
+    uint8_t state[20];
+    size_t state_len = some_tool_state(state);
+    size_t fresh_len = random_below(4) ? random_below(20) : TACHO_TOOL_STATE;
+    uint8_t *s = lend(0, NULL, fresh_len);
+    compare(TOOL_FRESH, 1, of_number(tacho_tool_fresh(s, fresh_len)), of_number(ref_tool_fresh(copy[0], fresh_len)));
+    size_t room_len = random_below(3) ? 600 + random_below(400) : some_length(60001);
+    s = lend(0, state, state_len);
+    uint8_t *room = lend(1, NULL, room_len);
     for (int step = 0; step < 6; step++) {
         size_t out_len = random_below(12) ? 260 + random_below(3) : random_below(260);
-        if (step) s = lend(0, s, state_len), r = lend(1, r, room);
+        if (step) s = lend(0, s, state_len), room = lend(1, room, room_len);
         uint8_t *out = lend(2, NULL, out_len);
         uint32_t what = random_below(6);
-        if (what == 0) {
-            uint8_t request = (uint8_t)(random_below(2) ? 5 : random_below(7)), trep = request == 5 || random_below(6) == 0 ? some_trep() : 0;
-            uint32_t day = request == 5 || random_below(6) == 0 ? some_day(trep) : 0;
-            tacho_written w = tacho_tool_begin(s, state_len, request, trep, day, out, out_len);
-            tacho_written v = ref_tool_begin(copy[0], state_len, request, trep, day, copy[2], out_len);
-            compare("tacho_tool_begin", 3, w.number, v.number, w.len, v.len, 0, 0);
-        } else if (what == 1) {
-            tacho_written w = tacho_tool_wait_ended(s, state_len, r, room, out, out_len);
-            tacho_written v = ref_tool_wait_ended(copy[0], state_len, copy[1], room, copy[2], out_len);
-            compare("tacho_tool_wait_ended", 3, w.number, v.number, w.len, v.len, 0, 0);
-        } else {
-            size_t n = some_frame(frame, true);
-            /* often the sub message that is expected, so that whole transfers are walked through */
-            if (random_below(2) && n > 9 && state_len == 15 && frame[4] == 0x76) {
-                frame[5] = s[3], frame[6] = s[9], frame[7] = s[10];
-                frame[n - 1] = ref_checksum(frame, n - 1);
-            }
-            const uint8_t *f = lend(3, frame, n);
-            tacho_written w = tacho_tool_arrived(s, state_len, f, n, r, room, out, out_len);
-            tacho_written v = ref_tool_arrived(copy[0], state_len, copy[3], n, copy[1], room, copy[2], out_len);
-            compare("tacho_tool_arrived", 4, w.number, v.number, w.len, v.len, 0, 0);
-        }
+        if (what == 0) tool_begins(s, state_len, out, out_len);
+        else if (what == 1) tool_waited(s, state_len, room, room_len, out, out_len);
+        else tool_hears(s, state_len, room, room_len, out, out_len);
     }
 }
 
@@ -399,6 +589,7 @@ int main(int argc, char **argv)
     uint64_t seed = argc > 2 ? strtoull(argv[2], NULL, 10) : (uint64_t)time(NULL);
     random_seed(seed);
     printf("differential: seed %llu\n", (unsigned long long)seed);
+    fflush(stdout); /* it stays readable where a sanitizer or a guard page ends the test */
     for (int i = 0; i < 4; i++) guard_make(&lent[i], LONGEST);
     for (unsigned long i = 0; i < rounds; i++) {
         frames();
@@ -408,8 +599,7 @@ int main(int argc, char **argv)
         units();
         tools();
     }
-    for (int i = 0; i < 13; i++)
-        if (by_number[i] == 0) fail("number %d never occurred in %lu rounds: the inputs do not reach it", i, rounds);
+    unsigned long calls = all_given(rounds);
     printf("differential: %lu calls agree with the reference\n", calls);
     return 0;
 }

@@ -1,6 +1,7 @@
 /*
- * One transfer between both ends over random lines, with the book of document 01 beside it (The line and the book): after every event the tool
- * waits or has ended as the book has, and holds 76, TREP and the data of the frames that the book has taken.
+ * One transfer between both ends over random lines, with the book of document 01 beside it (The line and the book):
+ * after every event the tool waits or has ended as the book has, and holds 76, TREP and the data of the frames that the
+ * book has taken; the rest of the room and of the tool's state is as document 01 says too.
  *
  *   download [TRANSFERS [SEED]]
  */
@@ -24,21 +25,18 @@ typedef struct {
     size_t count;
 } queue;
 
-typedef enum { WAITING, DONE, NO_ANSWER } fate;
-
-/* The setting: the store, the answer and its frames 1 to q. */
-static uint8_t store[STORE], room[ROOM], answer[ROOM];
-static size_t store_len, answer_len, q;
+/* The setting: the store, the answer and its frames 1 to q, the room and its bytes at the begin. */
+static uint8_t store[STORE], room[ROOM], room_at_begin[ROOM], answer[ROOM];
+static size_t store_len, answer_len, room_len, q;
 static string frames[FRAMES + 1];
 static uint8_t trep;
 static uint32_t day;
 
-/* Both ends, the line, the book (p, f, fate) and what is counted. */
+/* Both ends, the line, the book (p and f) and what is counted. */
 static uint8_t unit[TACHO_UNIT_STATE], tool[TACHO_TOOL_STATE];
 static queue to_unit, to_tool;
 static size_t p, put_out, put_out_before, arrivals;
 static unsigned f;
-static fate book;
 static unsigned long events, done, gave_up;
 
 static void push(queue *line, const uint8_t *bytes, size_t len)
@@ -55,74 +53,120 @@ static void take(queue *line, size_t i)
     line->count--;
 }
 
-static void set_up(void)
+static void choose_answer(void)
 {
     static const uint8_t treps[] = {0x31, 0x32, 0x33, 0x24, 0x35, 0x00};
     static const size_t lengths[] = {2, 254, 255, 256, 503, 504, 505, 1000, 3000};
-    static uint8_t other[600];
-    uint8_t started = random_below(2);
-    memset(store, 0, sizeof store);
     trep = treps[random_below(sizeof treps)];
     day = trep == 0x32 ? 86400 * (1 + random_below(9)) : 0;
     answer_len = random_below(40) ? lengths[random_below(9)] : 50000 + random_below(10001);
     random_bytes(answer, answer_len);
     answer[0] = 0x76;
     answer[1] = trep;
+    q = ref_sub_messages(answer_len - 2).count;
+    for (size_t k = 1; k <= q; k++)
+        frames[k].len = ref_sub_message(answer + 2, answer_len - 2, trep, (uint16_t)k, frames[k].bytes,
+                                        TACHO_FRAME_MOST).len;
+}
+
+/* The unit holds the answer, and where there is place another one that it may be sending at the begin. */
+static void set_up_unit(void)
+{
+    static const uint8_t granted[TACHO_UNIT_STATE] = {2, 1, 0, TACHO_GRANTED};
+    static const uint8_t sending[TACHO_UNIT_STATE] = {2, 1, 0, TACHO_SENDING, 2, 0, 0, 0, 0, 0, 2};
+    static uint8_t other[600];
+    bool place = answer_len + sizeof other <= 60000;
+    memset(store, 0, sizeof store);
     random_bytes(other, sizeof other);
     other[0] = 0x76;
     other[1] = 0x02; /* another kind's activities */
-    if (answer_len + sizeof other <= 60000) ref_store_append(store, STORE, other, sizeof other, 0);
+    if (place) ref_store_append(store, STORE, other, sizeof other, 0);
     tacho_written w = ref_store_append(store, STORE, answer, answer_len, day);
     if (w.number) fail("the test's store refuses the answer by %u", w.number);
     store_len = w.len;
-    q = ref_sub_messages(answer_len - 2).count;
-    for (size_t k = 1; k <= q; k++)
-        frames[k].len = ref_sub_message(answer + 2, answer_len - 2, trep, (uint16_t)k, frames[k].bytes, TACHO_FRAME_MOST).len;
-    uint8_t granted[TACHO_UNIT_STATE] = {2, 1, 0, TACHO_GRANTED}, sending[TACHO_UNIT_STATE] = {2, 1, 0, TACHO_SENDING, 2, 0, 0, 0, 0, 0, 2};
-    memcpy(unit, started && answer_len + sizeof other <= 60000 ? sending : granted, sizeof unit);
-    tacho_tool_fresh(tool, sizeof tool);
-    random_bytes(room, sizeof room);
-    to_unit.count = to_tool.count = 0;
-    p = put_out = put_out_before = arrivals = 0;
-    f = 0;
-    book = WAITING;
+    memcpy(unit, place && random_below(2) ? sending : granted, sizeof unit);
+}
+
+/* The tool has begun, its frame alone on the line, the book empty. The room may be no longer than the answer. */
+static void set_up(void)
+{
     uint8_t out[TACHO_FRAME_MOST];
-    w = tacho_tool_begin(tool, sizeof tool, TACHO_TRANSFER, trep, day, out, sizeof out);
+    choose_answer();
+    set_up_unit();
+    room_len = random_below(2) ? ROOM : answer_len;
+    random_bytes(room, ROOM);
+    memcpy(room_at_begin, room, ROOM);
+    to_unit.count = to_tool.count = 0;
+    p = put_out_before = arrivals = 0;
+    f = 0;
+    tacho_tool_fresh(tool, sizeof tool);
+    tacho_written w = tacho_tool_begin(tool, sizeof tool, TACHO_TRANSFER, trep, day, out, sizeof out);
     if (w.number) fail("the begin is refused by %u", w.number);
     push(&to_unit, out, w.len);
-    put_out = 1;
+    put_out = w.len > 0;
+}
+
+/* The book has ended. */
+static bool ended(void)
+{
+    return p == q || f == 3;
+}
+
+/* The tool's outcome: done exactly at p = q, "no answer" exactly at f = 3, else it waits. */
+static void check_outcome(void)
+{
+    unsigned outcome = tool[1];
+    if ((outcome == TACHO_DONE) != (p == q)) fail("the tool's outcome is %u at frame %zu of %zu", outcome, p, q);
+    if ((outcome == TACHO_NO_ANSWER) != (f == 3)) fail("the tool's outcome is %u after %u failed waits", outcome, f);
+    if (!ended() && outcome != TACHO_WAITING) fail("the tool's outcome is %u, and the book has not ended", outcome);
+}
+
+/* The tool holds 76, TREP and the data of frames 1 to p; no byte behind those has changed, in the room or past it. */
+static void check_held(void)
+{
+    size_t held = (size_t)tool[11] << 24 | (size_t)tool[12] << 16 | (size_t)tool[13] << 8 | tool[14];
+    size_t wanted = p == 0 ? 0 : p == q ? answer_len : 2 + 251 * p;
+    if (held != wanted) fail("the tool holds %zu bytes, wanted %zu with %zu of %zu frames taken", held, wanted, p, q);
+    if (memcmp(room, answer, held)) fail("the %zu bytes held are not those of the answer", held);
+    if (memcmp(room + held, room_at_begin + held, ROOM - held)) fail("a byte behind the %zu held has changed", held);
+}
+
+/* The rest of the state: the request as begun, the frames put out since the step forward with which the wait began, the
+ * number that the wait is for. A tool that is done keeps the last two as its last wait had them. */
+static void check_state(void)
+{
+    uint8_t name[5] = {trep, (uint8_t)(day >> 24), (uint8_t)(day >> 16), (uint8_t)(day >> 8), (uint8_t)day};
+    size_t expected = (size_t)tool[9] << 8 | tool[10], sendings = put_out - put_out_before;
+    if (tool[0] != TACHO_TRANSFER || memcmp(tool + 3, name, sizeof name)) fail("the request, TREP or day has changed");
+    if (tool[2] != 0) fail("the tool has a wire code, %02X, and was not refused", tool[2]);
+    if (tool[8] != sendings) fail("the tool counts %u sendings, %zu frames were put out", tool[8], sendings);
+    if (expected != (p < q ? p + 1 : q)) fail("number %zu is expected, %zu of %zu frames are taken", expected, p, q);
 }
 
 /* What document 01 says after every list of events. */
 static void check(void)
 {
-    static const uint8_t outcomes[] = {TACHO_WAITING, TACHO_DONE, TACHO_NO_ANSWER};
-    size_t held = (size_t)tool[11] << 24 | (size_t)tool[12] << 16 | (size_t)tool[13] << 8 | tool[14];
-    size_t wanted = p == 0 ? 0 : p == q ? answer_len : 2 + 251 * p;
     events++;
-    if (tool[1] != outcomes[book]) fail("the tool's outcome is %u, the book's %d (p %zu of %zu, f %u)", tool[1], (int)book, p, q, f);
-    if (held != wanted || memcmp(room, answer, held)) fail("the tool holds %zu bytes, the book has taken %zu frames of %zu", held, p, q);
-    if ((book == DONE) != (p == q)) fail("done without all frames, or the other way round");
-    if ((book == NO_ANSWER) != (f == 3)) fail("'no answer' without three failed waits, or the other way round");
-    if (book != DONE && tool[8] != put_out - put_out_before) fail("%u sendings, %zu frames put out", tool[8], put_out - put_out_before);
+    check_outcome();
+    check_held();
+    check_state();
     if (put_out > 3 * q) fail("%zu frames put out for %zu", put_out, q);
 }
 
 static void book_failed(void)
 {
-    if (book != WAITING) return;
-    if (++f == 3) book = NO_ANSWER;
+    if (!ended()) f++;
 }
 
 static void book_arrival(const string *s)
 {
-    if (book != WAITING) return;
+    if (ended()) return;
     const string *next = &frames[p + 1];
     if (s->len == next->len && memcmp(s->bytes, next->bytes, s->len) == 0) {
         p++;
         f = 0;
-        put_out_before = put_out;
-        if (p == q) book = DONE;
+        /* the last frame begins no wait */
+        if (p < q) put_out_before = put_out;
     } else if (ref_frame_check(s->bytes, s->len, true)) {
         book_failed();
     }
@@ -138,33 +182,44 @@ static void at_unit(size_t reply_len)
     push(&to_tool, reply, w.number ? 0 : w.len);
 }
 
+/* What a call of the tool puts out joins the queue to the unit; behind an end the call is out of turn. */
+static void from_tool(tacho_written w, const uint8_t *out, bool was_ended)
+{
+    unsigned wanted = was_ended ? TACHO_OUT_OF_TURN : TACHO_OK;
+    if (w.number != wanted) fail("a call of the tool gave %u, wanted %u", w.number, wanted);
+    if (w.len) put_out++;
+    push(&to_unit, out, w.len);
+}
+
 static void at_tool(void)
 {
     uint8_t out[TACHO_FRAME_MOST];
+    bool was_ended = ended();
     if (to_tool.count == 0) return;
     string s = to_tool.at[0];
     take(&to_tool, 0);
     arrivals++;
     book_arrival(&s);
-    tacho_written w = tacho_tool_arrived(tool, sizeof tool, s.bytes, s.len, room, sizeof room, out, sizeof out);
-    if (w.number == 0 && w.len) put_out++;
-    push(&to_unit, out, w.number ? 0 : w.len);
+    from_tool(tacho_tool_arrived(tool, sizeof tool, s.bytes, s.len, room, room_len, out, sizeof out), out, was_ended);
 }
 
 static void wait_ends(void)
 {
     uint8_t out[TACHO_FRAME_MOST];
+    bool was_ended = ended();
     book_failed();
-    tacho_written w = tacho_tool_wait_ended(tool, sizeof tool, room, sizeof room, out, sizeof out);
-    if (w.number == 0 && w.len) put_out++;
-    push(&to_unit, out, w.number ? 0 : w.len);
+    from_tool(tacho_tool_wait_ended(tool, sizeof tool, room, room_len, out, sizeof out), out, was_ended);
 }
 
+/* Too short an output refuses a begin in every state; a tool that waits says first that it is out of turn. The request
+ * is another one than the test's, so that check() sees where a refused begin writes it. */
 static void begin_refused(void)
 {
-    uint8_t out[TACHO_FRAME_MOST];
-    /* too short an output refuses it in every state */
-    if (tacho_tool_begin(tool, sizeof tool, TACHO_TRANSFER, trep, day, out, TACHO_FRAME_MOST - 1).number == 0) fail("a short output was taken");
+    uint8_t out[TACHO_FRAME_MOST], request = random_below(2) ? TACHO_TRANSFER : TACHO_STOP;
+    uint8_t other = request == TACHO_TRANSFER ? 0x01 : 0;
+    unsigned wanted = ended() ? TACHO_BUFFER_SHORT : TACHO_OUT_OF_TURN;
+    tacho_written w = tacho_tool_begin(tool, sizeof tool, request, other, 0, out, TACHO_FRAME_MOST - 1);
+    if (w.number != wanted) fail("a begin with a short output gave %u, wanted %u", w.number, wanted);
 }
 
 static void spoil(string *s, bool at_tool_end)
@@ -197,7 +252,7 @@ static void bad_line(void)
     uint32_t badness = random_below(12);
     set_up();
     check();
-    for (size_t step = 0; step < 40 * q + 200 && (book == WAITING || random_below(20)); step++) {
+    for (size_t step = 0; step < 40 * q + 200 && (!ended() || random_below(20)); step++) {
         uint32_t event = random_below(24);
         if (to_unit.count + to_tool.count == 0 || (event < badness && random_below(6) == 0)) wait_ends();
         else if (event < badness) line_changes();
@@ -206,21 +261,23 @@ static void bad_line(void)
         else at_tool();
         check();
     }
-    done += book == DONE;
-    gave_up += book == NO_ANSWER;
+    done += tool[1] == TACHO_DONE;
+    gave_up += tool[1] == TACHO_NO_ANSWER;
 }
 
+/* Done comes at arrival q: check() lets no tool be done before, and this loop none wait longer. */
 static void clean_line(void)
 {
     set_up();
-    while (book == WAITING) {
+    check();
+    while (tool[1] == TACHO_WAITING) {
         if (to_unit.count + to_tool.count == 0) fail("a clean line is empty before the end");
         if (arrivals == q) fail("not done at arrival %zu", q);
         if (random_below(2)) at_unit(TACHO_FRAME_MOST);
         else at_tool();
         check();
     }
-    if (book != DONE || arrivals != q) fail("a clean line ends otherwise than done at arrival %zu", q);
+    if (tool[1] != TACHO_DONE) fail("the tool's outcome on a clean line is %u", tool[1]);
 }
 
 int main(int argc, char **argv)
@@ -229,12 +286,13 @@ int main(int argc, char **argv)
     uint64_t seed = argc > 2 ? strtoull(argv[2], NULL, 10) : (uint64_t)time(NULL);
     random_seed(seed);
     printf("download: seed %llu\n", (unsigned long long)seed);
+    fflush(stdout); /* it stays readable where a sanitizer ends the test */
     for (unsigned long i = 0; i < transfers; i++) {
         bad_line();
         clean_line();
     }
     if (done == 0 || gave_up == 0) fail("%lu transfers done and %lu given up: the lines are all alike", done, gave_up);
-    printf("download: %lu transfers over bad lines (%lu done, %lu given up), %lu over clean ones, %lu events as the book says\n", transfers, done,
-           gave_up, transfers, events);
+    printf("download: %lu transfers over bad lines (%lu done, %lu given up), %lu over clean ones, "
+           "%lu events as the book says\n", transfers, done, gave_up, transfers, events);
     return 0;
 }
