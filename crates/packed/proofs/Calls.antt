@@ -5,7 +5,7 @@ use mathlib.Core.List.{List, []}
 use mathlib.Core.Path.{_≡_, refl, sym, ap, _∙_}
 use native.Mathlib.Omega.{arith}
 use lib.Dec.{eqb, leb}
-use lib.ListN.{length, take}
+use lib.ListN.{length, getD, take}
 use borrow.Author.Tests.{le-leb, lt-ltb}
 use Rattle.octets.specs.Numbers.{changedBy}
 use Rattle.octets.specs.Buffer.{Bytes, front}
@@ -52,10 +52,91 @@ phase-fits byte name last d l = go (eqb byte 0) (eqb byte 1) (eqb byte 2) (eqb b
     go false false false true = tt
     go false false false false = (d, l)
 
-pub unit-fits : (b : List ℕ) → Bytes b → units.Fits (unpackedUnit b .phase)
-unfolding unpackedUnit
-unit-fits b h = go (isUnit b)
-  where
-    go : (t : Bool) → units.Fits (cond t (record { kind = _; rate = _; pending = _; phase = phaseFrom _ (unitName b) (unitLast b) }) _ .phase)
-    go true = phase-fits _ (unitName b) (unitLast b) (number-fits 4 5 b h) (number-fits 2 9 b h)
-    go false = tt
+-- bytes that are a state
+module _ (b : List ℕ) (bytes : Bytes b) where
+  pub unit-fits : isUnit b ≡ true → units.Fits (unpackedUnit b .phase)
+  unfolding unpackedUnit
+  unit-fits is = rw is (phase-fits (getD b 3 0) (unitName b) (unitLast b) (number-fits 4 5 b bytes) (number-fits 2 9 b bytes))
+
+  pub tool-fits : isTool b ≡ true → tools.Fits (unpackedTool b)
+  unfolding unpackedTool
+  tool-fits is = rw is (record { day = number-fits 4 4 b bytes; expected = number-fits 2 9 b bytes; held = number-fits 4 11 b bytes })
+
+-- states that fit come back from their packed bytes
+
+name-fits : (phase : Phase) → units.Fits phase → (nameSent phase .day < 4294967296) × (lastSent phase .0 < 65536)
+name-fits Closed f = (omega arith, omega arith)
+name-fits Started f = (omega arith, omega arith)
+name-fits Session f = (omega arith, omega arith)
+name-fits Granted f = (omega arith, omega arith)
+name-fits (Sending name last) f = f
+
+pub unit-returns : (u : UnitState) → units.Fits (u .phase) → unpackedUnit (packedUnit u) ≡ u
+unit-returns u f = let n = name-fits (u .phase) f in unit-back u (n .0) (n .1)
+
+pub tool-returns : (t : ToolState) → tools.Fits t → unpackedTool (packedTool t) ≡ t
+tool-returns t f = tool-back t (f .day) (f .expected) (f .held)
+
+-- The state bytes after a call: the next state packed, also where it is refused and the bytes b, which are the state u packed, stay
+
+module _ {A : Type 0} (pack : A → List ℕ) where
+  pub kept-packs : (n : ℕ) (b : List ℕ) (next was : A) → b ≡ pack was → changedBy n (pack (changedBy n next was)) b ≡ pack (changedBy n next was)
+  kept-packs n b next was e = go (eqb n 0)
+    where
+      go : (t : Bool) → cond t (pack (cond t next was)) b ≡ pack (cond t next was)
+      go true = refl
+      go false = e
+
+-- The calls of both ends on the line, over states that fit
+
+-- what a call leaves, packed
+abbrev pub packedResult : Result (List ℕ) UnitState → Result (List ℕ) (List ℕ)
+packedResult r = record { next = packedUnit (r .next); out = r .out }
+
+abbrev pub toolBytes : ToolRoom → ToolBytes
+toolBytes t = record { state = packedTool (t .state); room = t .room }
+
+abbrev pub packedTools : Result (List ℕ) ToolRoom → Result (List ℕ) ToolBytes
+packedTools r = record { next = toolBytes (r .next); out = r .out }
+
+pub unit-called : (c : UnitGiven) (u : UnitState) (x : List ℕ) → units.Fits (u .phase) → unitCall c (packedUnit u) x ≡ packedResult (cable.unitCall lab (lengths c) u x)
+unfolding unitHanded unitKept unitResult unitState
+unit-called c u x f =
+    rw (unit-returns u f, unit-string lab (c .reply) (c .store) u x)
+    (ap (λ (b : List ℕ). record { next = b; out = strings (unitReply lab (c .store) (length (c .reply)) u x) })
+    (kept-packs packedUnit (unitNumber lab (c .store) (length (c .reply)) u x) (packedUnit u) (stateAfter u (reactionTo lab (c .store) u x)) u refl))
+
+module _ (output : List ℕ) (t : ToolRoom) (f : tools.Fits (t .state)) where
+  pub tool-arrived : (x : List ℕ) → toolArrival output (toolBytes t) x ≡ packedTools (cable.toolArrival lab (length output) t x)
+  unfolding toolHanded toolKept eventResult eventState
+  tool-arrived x =
+      rw (tool-returns (t .state) f, arrival-string lab output (t .state) x (length (t .room)))
+      (ap (λ (b : List ℕ). record {
+        next = record { state = b; room = arrivalRoom lab (t .state) x (length output) (t .room) };
+        out = strings (eventSent lab (t .state) (arrivalMeaning lab (length (t .room)) (t .state) x) (length (t .room)) (length output));
+      })
+      (kept-packs packedTool (eventNumber (t .state) (length (t .room)) (length output)) (packedTool (t .state)) (toolAfter (t .state) (arrivalMeaning lab (length (t .room)) (t .state) x) (length (arrivalBytes lab (t .state) x))) (t .state) refl))
+
+  pub tool-waited : toolWaitEnd output (toolBytes t) ≡ packedTools (cable.toolWaitEnd lab (length output) t)
+  unfolding toolHanded toolKept eventResult eventState
+  tool-waited =
+      rw (tool-returns (t .state) f, wait-string lab output (t .state) (length (t .room)))
+      (ap (λ (b : List ℕ). record {
+        next = record { state = b; room = t .room };
+        out = strings (eventSent lab (t .state) FailedWait (length (t .room)) (length output));
+      })
+      (kept-packs packedTool (eventNumber (t .state) (length (t .room)) (length output)) (packedTool (t .state)) (toolAfter (t .state) FailedWait 0) (t .state) refl))
+
+-- An ended tool refuses every event by 11, whatever numbers it has kept
+module _ (output : List ℕ) (t : ToolRoom) (ended : isWaiting (t .state .outcome) ≡ false) where
+  ended-number : (room out : ℕ) → eventNumber (unpackedTool (packedTool (t .state))) room out ≡ 11
+  unfolding eventNumber
+  ended-number room out = rw (outcome-kept (t .state), ended)
+
+  pub ended-arrived : (x : List ℕ) → toolArrival output (toolBytes t) x ≡ silent (toolBytes t)
+  unfolding toolHanded toolKept eventResult eventState eventSent eventRoom eventOut front
+  ended-arrived x = rw (ended-number (length (t .room)) (length output))
+
+  pub ended-waited : toolWaitEnd output (toolBytes t) ≡ silent (toolBytes t)
+  unfolding toolHanded toolKept eventResult eventState eventSent eventRoom eventOut front
+  ended-waited = rw (ended-number (length (t .room)) (length output))

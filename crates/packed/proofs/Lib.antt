@@ -1,4 +1,5 @@
 pub mod Calls
+pub mod Simulation
 pub mod Facts
 pub mod Theorem
 pub mod Fresh
