@@ -33,11 +33,11 @@ use Rattle.download.proofs.ToolFacts as tools
 
 module _ (a : Addresses) (g : Premises) where
   -- an accepted begin sends the request and waits for frame 1
-  begun-is : transfer a g .begun ≡ sends (tools.waitingTool g 0 0) (frameSent a requests.Transfer (g .name) 1)
+  pub begun-is : transfer a g .begun ≡ sends (tools.waitingTool g 0 0) (frameSent a requests.Transfer (g .name) 1)
   unfolding beginResult beginState beginSent front
   begun-is = rw (g .accepted, frames.strings-asked a (g .name) 1)
 
-  pub facts : Facts (cableEnds a) (transfer a g)
+  unfoldable pub facts : Facts (cableEnds a) (transfer a g)
   facts =
       record {
         request = frameSent a requests.Transfer (g .name);

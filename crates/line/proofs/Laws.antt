@@ -1,7 +1,7 @@
 -- What holds after every list of allowed events, read from the invariant.
 use mathlib.Core.Path.{_≡_, refl}
 use mathlib.Core.List.{List}
-use Prim.Native.Nat.{ℕ, suc, _+_}
+use Prim.Native.Nat.{ℕ, suc, _+_, _≤_}
 use native.Mathlib.Omega.{arith}
 use Rattle.line.specs.Line.{Ends, unitEnd, System, Event}
 use Rattle.line.specs.Book.{Transfer, Outcome, waiting, done, noAnswer, Book, Run, run, start}
@@ -29,6 +29,7 @@ module _ (E : Ends) (T : Transfer E) (facts : Facts E T) where
     -- the last number that the unit sent
     pub last : ℕ
     pub unit : r .system .unit ≡ unitAfter last
+    pub lastAtMost : last ≤ T .q
     -- the unit is asked only for the frame last sent or the next one
     pub asked : Every (Within (T .refused unitEnd) request last (suc last)) (r .system .toUnit)
 
@@ -45,6 +46,7 @@ module _ (E : Ends) (T : Transfer E) (facts : Facts E T) where
         tool = rw (i .book) (toolIs (r .system .tool) (i .p) (r .system .putOut) (r .putOutBefore) (i .stage) (i .at .tool) (i .at .counts .sent));
         last = i .n;
         unit = i .at .unit;
+        lastAtMost = omega (arith, i .at .order .asked, i .at .order .more);
         asked = every (i .n) (suc (i .n)) (omega arith) (omega arith) (i .at .order .toUnit);
       }
 

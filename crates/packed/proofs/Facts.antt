@@ -34,19 +34,21 @@ use Rattle.packed.specs.PackedDemand.{StateBytes, lengths, packedTransfe
 use Rattle.packed.proofs.Calls.{unit-fits, unit-returns, packedResult, toolBytes, packedTools, unit-called, tool-arrived, tool-waited, ended-arrived, ended-waited}
 
 -- bytes that are read as a possible state are a state
-is-state : (b store : List ℕ) → unitStates.possible store (unpackedUnit b) ≡ true → isUnit b ≡ true
+none-impossible : (store : List ℕ) → unitStates.possible store noUnit ≡ false
 unfolding unitStates.possible unitStates.possibleAt
+none-impossible store = refl
+
+is-state : (b store : List ℕ) → unitStates.possible store (unpackedUnit b) ≡ true → isUnit b ≡ true
 is-state b store h = go (isUnit b) refl
   where
     go : (t : Bool) → isUnit b ≡ t → isUnit b ≡ true
     go true e = e
     go false e =
-        let u : noUnit ≡ unpackedUnit b = unit-none b noUnit e refl in
-        let f : unitStates.possible store noUnit ≡ true = rw u h in
+        let f : false ≡ true = sym (none-impossible store) ∙ ap (unitStates.possible store) (unit-none b noUnit e refl) ∙ h in
         never (cc)
 
 module _ (g : Premises) (bytes : StateBytes g) where
-  unit-is : isUnit (bytes .unit) ≡ true
+  pub unit-is : isUnit (bytes .unit) ≡ true
   unit-is = is-state (bytes .unit) (g .store) (rw (bytes .unitIs) (g .possible))
 
   -- the states of both ends fit their fields
@@ -75,17 +77,17 @@ module _ (g : Premises) (bytes : StateBytes g) where
   no-answer-fits p h = record { day = g .fourBytes; expected = omega (arith, frames.frames-most g); held = held-fits p h }
 
   -- the begin on packed bytes
-  begun-packed : packedTransfer g bytes .begun ≡ packedTools (transfer lab g .begun)
+  pub begun-packed : packedTransfer g bytes .begun ≡ packedTools (transfer lab g .begun)
   unfolding toolHanded toolKept toolBegin toolBeginOut requestFrom beginResult beginState
-  begun-packed = ?
+  begun-packed = rw (bytes .toolIs, begin-string lab (bytes .output) (g .tool) requests.Transfer (g .name), bytes .outputIs, g .accepted)
 
-  premise : (n : ℕ) (c : UnitGiven) → n ≤ countOf (length (answerData g)) → CallPremise g (unpackedUnit (packedUnit (units.unitAfter g n))) (lengths c) → CallPremise g (units.unitAfter g n) (lengths c)
+  pub premise : (n : ℕ) (c : UnitGiven) → n ≤ countOf (length (answerData g)) → CallPremise g (unpackedUnit (packedUnit (units.unitAfter g n))) (lengths c) → CallPremise g (units.unitAfter g n) (lengths c)
   premise n c h o = rw (unit-after-returns n h) at o
 
-  abbrev known : Facts (cable.cableEnds lab) (transfer lab g)
+  abbrev pub known : Facts (cable.cableEnds lab) (transfer lab g)
   known = theorem.facts lab g
 
-  pub packedFacts : Facts packedEnds (packedTransfer g bytes)
+  unfoldable pub packedFacts : Facts packedEnds (packedTransfer g bytes)
   unfolding theorem.facts
   packedFacts =
       record {

@@ -1,4 +1,5 @@
 -- Demand 3 over the calls of tacho.h.
 pub mod PackedEnds
 pub mod Simulation
+pub mod Fresh
 pub mod PackedDemand

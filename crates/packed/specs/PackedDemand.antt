@@ -1,6 +1,7 @@
--- DEMAND 3 for the calls that a C host links, at the lab's addresses: the claim of crate download, of runs whose ends are driven through packed bytes. The chain: a call of tacho.h → its
--- promise → a definition (specs/Calls.antt of host) → an end of the cable (PackedEnds.antt) → line, events and book (specs/ of line) → what holds (Agrees and AgreesClean of
--- download) of the states that the bytes are.
+-- DEMAND 3 for the calls that a C host links, at the lab's addresses: the claim of crate download, of runs whose ends are
+-- driven through packed bytes. The chain: a call of tacho.h → its promise → a definition (specs/Calls.antt of host) → an
+-- end of the cable (PackedEnds.antt) → line, events and book (specs/ of line) → what holds (Agrees and AgreesClean of
+-- download) of the states that the bytes are. proofs/Theorem.antt proves it.
 use mathlib.Core.Path.{_≡_}
 use mathlib.Core.List.{List}
 use Prim.Native.Nat.{ℕ, _≤_}
@@ -19,7 +20,8 @@ use Rattle.download.specs.CableEnds.{cableEnds}
 use Rattle.download.specs.Demand.{Premises, CallPremise, transfer, Agrees, AgreesClean}
 use Rattle.packed.specs.PackedEnds.{UnitGiven, ToolBytes, toolBegun, packedEnds}
 
--- The premises of demand 3, with the state bytes and the output that a host has at the begin: those of a fresh tool, or of any other state that is possible
+-- The premises of demand 3, with the state bytes and the output that a host has at the begin: those of a fresh tool, or of
+-- any other state that is possible
 pub record StateBytes (given : Premises) : Type 0 where
   pub unit : List ℕ
   pub tool : List ℕ
@@ -47,7 +49,9 @@ module _ (given : Premises) (bytes : StateBytes given) where
         toolPremise = λ output. 260 ≤ length output;
         hasRoom = λ c. leb 260 (length (c .reply));
         unit = bytes .unit;
-        begun = toolBegun (record { request = requestByte requests.Transfer; name = given .name; output = bytes .output }) (record { state = bytes .tool; room = given .room });
+        begun = toolBegun
+            (record { request = requestByte requests.Transfer; name = given .name; output = bytes .output })
+            (record { state = bytes .tool; room = given .room });
       }
 
 -- the same system and run with the states that the bytes are
@@ -79,9 +83,15 @@ module _ (given : Premises) (bytes : StateBytes given) where
   packedRun events = run packedEnds (packedTransfer given bytes) events packedStart
 
   pub record PackedClaim (events : List (Event packedEnds)) : Type 0 where
-    pub allowed : AllAllowed packedEnds (packedTransfer given bytes) events (packedStart .system) → Agrees lab given (unpackedRun (packedRun events))
-    pub clean : AllClean packedEnds (packedTransfer given bytes) events (packedStart .system) → AgreesClean lab given (unpackedRun (packedRun events))
-    pub packs : AllAllowed packedEnds (packedTransfer given bytes) events (packedStart .system) → Packs (packedRun events .system)
+    -- what demand 3 says, of the states that the bytes are
+    pub allowed : AllAllowed packedEnds (packedTransfer given bytes) events (packedStart .system)
+        → Agrees lab given (unpackedRun (packedRun events))
+    pub clean : AllClean packedEnds (packedTransfer given bytes) events (packedStart .system)
+        → AgreesClean lab given (unpackedRun (packedRun events))
+    -- the bytes say no more than these states
+    pub packs : AllAllowed packedEnds (packedTransfer given bytes) events (packedStart .system)
+        → Packs (packedRun events .system)
 
 abbrev pub PackedDemand3 : Type 0
-PackedDemand3 = (given : Premises) (bytes : StateBytes given) (events : List (Event packedEnds)) → PackedClaim given bytes events
+PackedDemand3 =
+    (given : Premises) (bytes : StateBytes given) (events : List (Event packedEnds)) → PackedClaim given bytes events

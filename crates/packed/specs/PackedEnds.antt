@@ -1,10 +1,11 @@
--- The two cable ends as a C host drives them: packed states, room, store, frame and output are the byte slices that it lends, and what a call leaves at the front of its
--- output goes on the line. Each end is put together from the definitions that the calls of tacho.h promise (specs/Calls.antt of host):
---   call                     its promise: result, state, output and room at exit                     here
---   tacho_unit_step          unitHanded and unitKept of unitStep, unitStepReply                       unitCall
---   tacho_tool_begin         toolHanded and toolKept of toolBegin, toolBeginOut                       toolBegun
---   tacho_tool_arrived       toolHanded and toolKept of toolArrival, toolArrivalOut, toolArrivalRoom  toolArrival
---   tacho_tool_wait_ended    toolHanded and toolKept of toolWait, toolWaitOut                         toolWaitEnd
+-- The two cable ends as a C host drives them: packed states, room, store, frame and output are the byte slices that it
+-- lends, and what a call leaves at the front of its output goes on the line. Each end is put together from the
+-- definitions that the calls of tacho.h promise (specs/Calls.antt of host):
+--   call                   its promise: result and state of a step, then the buffers at exit          here
+--   tacho_unit_step        unitHanded and unitKept of unitStep; unitStepReply                         unitCall
+--   tacho_tool_begin       toolHanded and toolKept of toolBegin; toolBeginOut                         toolBegun
+--   tacho_tool_arrived     toolHanded and toolKept of toolArrival; toolArrivalRoom, toolArrivalOut    toolArrival
+--   tacho_tool_wait_ended  toolHanded and toolKept of toolWait; toolWaitOut                           toolWaitEnd
 use mathlib.Core.Bool.{cond}
 use mathlib.Core.List.{List}
 use mathlib.Core.Option.{none, some}
@@ -16,7 +17,8 @@ use Rattle.catalog.specs.declared.AnswerName.{AnswerName}
 use Rattle.unit.specs.declared.UnitReply.{UnitReply}
 use Rattle.tool.specs.declared.ToolStep.{ToolStep}
 use Rattle.host.specs.Calls as calls
-use Rattle.host.specs.Calls.{unitHanded, unitKept, unitStep, unitStepReply, toolHanded, toolKept, toolBegin, toolBeginOut, toolArrivalRoom, toolArrivalOut, toolWait, toolWaitOut}
+use Rattle.host.specs.Calls.{unitHanded, unitKept, unitStep, unitStepReply, toolHanded, toolKept, toolBegin}
+use Rattle.host.specs.Calls.{toolBeginOut, toolArrivalRoom, toolArrivalOut, toolWait, toolWaitOut}
 use Rattle.line.specs.Line.{Result, Ends}
 use Rattle.download.specs.CableEnds.{strings}
 
@@ -56,7 +58,10 @@ abbrev pub toolArrival : List ℕ → ToolBytes → List ℕ → Result (List �
 toolArrival output t frame =
     let step : ToolStep = calls.toolArrival (t .state) frame (length (t .room)) (length output) in
     record {
-      next = record { state = toolKept step (t .state); room = toolArrivalRoom (t .state) frame (length output) (t .room) };
+      next = record {
+        state = toolKept step (t .state);
+        room = toolArrivalRoom (t .state) frame (length output) (t .room);
+      };
       out = sent (toolHanded step) (toolArrivalOut (t .state) frame (length (t .room)) output);
     }
 

@@ -1,5 +1,6 @@
--- A packed call does what the Rattle call does: after it the state bytes are the packing of the state that the Rattle call gives on the unpacked one, and unpacking gives that
--- state back. So every call keeps the bounds that packing needs. A refused call leaves the bytes, and the Rattle call its state.
+-- A packed call does what the Rattle call does: after it the state bytes are the packing of the state that the Rattle
+-- call gives on the unpacked one, and unpacking gives that state back. So every call keeps the bounds that packing needs.
+-- A refused call leaves the bytes, and the Rattle call its state.
 use mathlib.Core.Bool.{true}
 use mathlib.Core.List.{List}
 use mathlib.Core.Path.{_≡_}
@@ -13,10 +14,10 @@ use Rattle.unit.specs.State.{freshUnit}
 use Rattle.unit.specs.Call.{unitState}
 use Rattle.tool.specs.declared.ToolState.{ToolState}
 use Rattle.tool.specs.State.{freshTool}
-use Rattle.tool.specs.declared.Meaning.the-variants.{FailedWait}
 use Rattle.tool.specs.Call.{beginResult, arrivalResult, waitResult}
 use Rattle.host.specs.Packed.{packedUnit, isUnit, unpackedUnit, requestFrom, packedTool, isTool, unpackedTool}
-use Rattle.host.specs.Calls.{unitFreshState, unitKept, unitStep, toolFreshState, toolKept, toolBegin, toolArrival, toolWait}
+use Rattle.host.specs.Calls.{unitFreshState, unitKept, unitStep}
+use Rattle.host.specs.Calls.{toolFreshState, toolKept, toolBegin, toolArrival, toolWait}
 
 -- the bytes are this state, packed, and are read as it
 pub record UnitIs (bytes : List ℕ) (u : UnitState) : Type 0 where
@@ -29,16 +30,22 @@ pub record ToolIs (bytes : List ℕ) (t : ToolState) : Type 0 where
 
 pub record Simulation : Type 0 where
   -- the fresh calls, on a slice of exactly the state's size
-  pub unitFresh : (kind : ℕ) (state : List ℕ) → kind < 3 → length state ≡ 11 → UnitIs (unitFreshState kind state) (freshUnit kind)
+  pub unitFresh : (kind : ℕ) (state : List ℕ) → kind < 3 → length state ≡ 11
+      → UnitIs (unitFreshState kind state) (freshUnit kind)
   pub toolFresh : (state : List ℕ) → length state ≡ 15 → ToolIs (toolFreshState state) freshTool
   -- a step of the unit
   pub unitStep : (state store frame reply : List ℕ) → Bytes state → Bytes frame → isUnit state ≡ true
-      → UnitIs (unitKept (unitStep state store (length reply) frame) state) (unitState lab store (length reply) (unpackedUnit state) frame)
+      → UnitIs (unitKept (unitStep state store (length reply) frame) state)
+      (unitState lab store (length reply) (unpackedUnit state) frame)
   -- a begin of the tool; the day is a u32
-  pub toolBegin : (state : List ℕ) (request : ℕ) (name : AnswerName) (output : List ℕ) → Bytes state → isTool state ≡ true → request ≤ 5 → name .day < 0x100000000
-      → ToolIs (toolKept (toolBegin state request name (length output)) state) (beginResult lab (unpackedTool state) (requestFrom request) name (length output) .state)
+  pub toolBegin : (state : List ℕ) (request : ℕ) (name : AnswerName) (output : List ℕ) → Bytes state
+      → isTool state ≡ true → request ≤ 5 → name .day < 0x100000000
+      → ToolIs (toolKept (toolBegin state request name (length output)) state)
+      (beginResult lab (unpackedTool state) (requestFrom request) name (length output) .state)
   -- an arrival and a wait's end
   pub toolArrival : (state frame room output : List ℕ) → Bytes state → isTool state ≡ true
-      → ToolIs (toolKept (toolArrival state frame (length room) (length output)) state) (arrivalResult lab (unpackedTool state) frame (length room) (length output) .state)
+      → ToolIs (toolKept (toolArrival state frame (length room) (length output)) state)
+      (arrivalResult lab (unpackedTool state) frame (length room) (length output) .state)
   pub toolWait : (state room output : List ℕ) → Bytes state → isTool state ≡ true
-      → ToolIs (toolKept (toolWait state (length room) (length output)) state) (waitResult lab (unpackedTool state) (length room) (length output) .state)
+      → ToolIs (toolKept (toolWait state (length room) (length output)) state)
+      (waitResult lab (unpackedTool state) (length room) (length output) .state)
