@@ -1,4 +1,4 @@
--- What the header promises of every refusal: "the call has written nothing, and the other fields of its result are zero"; and that bytes
+-- What the header promises of every refusal: the call has written nothing, and the other fields of its result are zero; and that bytes
 -- that are no state are refused by 11.
 use Prim.Native.Nat.{ℕ, _≤_}
 use mathlib.Core.Bool.{Bool, true, false}

@@ -71,7 +71,7 @@ unitLast b = sub (numberAt 2 9 b)
 abbrev pub sendsNothing : AnswerName → SubMessage → Bool
 sendsNothing name last = eqb (name .trep) 0 && (eqb (name .day) 0 && eqb (last .0) 0)
 
--- "Outside sending the last seven bytes are zero, else it is no state"
+-- outside sending the last seven bytes are zero, else it is no state
 unfoldable pub isUnit : List ℕ → Bool
 isUnit b =
     eqb (length b) unitSize

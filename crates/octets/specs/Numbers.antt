@@ -67,7 +67,7 @@ module _ {A : Type 0} where
 abbrev pub writtenBy : ℕ → ℕ → Written
 writtenBy number n = record { number = number; len = changedBy number n 0 }
 
--- "Where a part is handed back, a twin call gives the number; refused, the part is empty"
+-- "Where a part .. is handed back, a twin call gives the number; refused, the part is empty"
 abbrev pub placeBy : ℕ → ℕ → ℕ → Place
 placeBy number start n = record { number = number; start = changedBy number start 0; len = changedBy number n 0 }
 
