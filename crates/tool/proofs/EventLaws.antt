@@ -41,9 +41,6 @@ module _ (t : ToolState) (d : List ℕ) where
 -- What the data is of the answer, and whether it fits
 
 module _ (x x′ : Received) (same : x ≡ x′) (r : Meaning) where
-  pub meaning-room : (b b′ : Bool) → b ≡ b′ → r ≡ meaningOf x′ b′ → r ≡ meaningOf x b
-  meaning-room b b′ q e = rw (same, q) e
-
   pub meaning-any : (b : Bool) → r ≡ meaningOf x′ b → r ≡ meaningOf x b
   meaning-any b e = rw same e
 

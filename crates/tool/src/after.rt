@@ -33,12 +33,12 @@ fn end(state: ToolState, outcome: Outcome, held: u32) -> ToolState
     ensures { λ r. ⌜ r ≡ ended state outcome held ⌝ }
 {
     let request = state.request;
-    let name = state.name;
+    let kept = state.name;
     let expected = state.expected;
     ToolState {
         request,
         outcome,
-        name,
+        name: kept,
         sendings: state.sendings,
         expected,
         held,

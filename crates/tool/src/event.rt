@@ -4,6 +4,7 @@ use crate::ToolState;
 use frame::End;
 use split::Received;
 ghost use mathlib.Core.Path.{_≡_};
+ghost use mathlib.Core.Bool.{cond};
 ghost use Rattle.frame.specs.Frame.{lab};
 ghost use Rattle.tool.specs.Event.{meaningOf, transferMeaning, isRefusal, refusalMeaning, dataMeaning, arrivalMeaning};
 
@@ -26,37 +27,26 @@ fn refusal_meaning(code: u8) -> Meaning
     ensures { λ r. ⌜ r ≡ refusalMeaning code ⌝ }
 {
     if code == 0x78 {
-        Meaning::Ignored
-    } else {
-        Meaning::RefusedBy(code)
+        return Meaning::Ignored;
     }
+    Meaning::RefusedBy(code)
+}
+
+// What is taken where it fits, and how the request ends where it does not.
+fn taken_or(room: bool, taken: Meaning, ended: Meaning) -> Meaning
+    ensures { λ r. ⌜ r ≡ cond room taken ended ⌝ }
+{
+    if room { taken } else { ended }
 }
 
 fn meaning_of(received: Received, room: bool) -> Meaning
     ensures { λ r. ⌜ r ≡ meaningOf received room ⌝ }
 {
+    let ended = Meaning::NoRoomForSubMessage;
     match received {
-        Received::Whole => {
-            if room {
-                Meaning::WholeAnswer
-            } else {
-                Meaning::NoRoomForAnswer
-            }
-        }
-        Received::Full => {
-            if room {
-                Meaning::SubMessageTaken
-            } else {
-                Meaning::NoRoomForSubMessage
-            }
-        }
-        Received::Last => {
-            if room {
-                Meaning::LastTaken
-            } else {
-                Meaning::NoRoomForSubMessage
-            }
-        }
+        Received::Whole => taken_or(room, Meaning::WholeAnswer, Meaning::NoRoomForAnswer),
+        Received::Full => taken_or(room, Meaning::SubMessageTaken, ended),
+        Received::Last => taken_or(room, Meaning::LastTaken, ended),
         Received::Above => Meaning::FailedWait,
         Received::Other => Meaning::Ignored,
     }

@@ -114,8 +114,9 @@ fn reaction_to(
     requires { ⌜ now «data» ≡ dataOf lab ends.Unit (now frame) ⌝ }
     ensures { λ r. ⌜ r ≡ changedBy number (reactionAt lab sent asked state (now (frame .entry))) Reaction.Ignored ⌝ }
 {
+    let refused = Reaction::Ignored;
     if number != 0 {
-        return Reaction::Ignored;
+        return refused;
     }
     on_good(state, sent, asked, frame, data)
 }
