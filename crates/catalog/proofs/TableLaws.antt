@@ -4,12 +4,11 @@ use mathlib.Core.Bool.{Bool, true, false, _||_}
 use mathlib.Core.List.{List, [], _∷_}
 use Prim.Native.Nat.{ℕ, zero, suc, _+_, _*_, _-_, _/_, _%_, _<_, _≤_}
 use native.Mathlib.Omega.{arith}
-use native.Mathlib.Numerals.{add-one}
 use lib.Dec.{eqb}
-use lib.ListN.{length, getD, drop, List·getD-eq-default, drop-of-length-le}
-use lib.Seq.{drop-cons}
+use lib.ListN.{length, getD, List·getD-eq-default}
 use borrow.Author.Tests.{eq-eqb, ne-eqb, eqb-true}
-use Rattle.catalog.specs.Table.{absent, rows, trtpOf, inColumn, knownTo, isActivities}
+use Rattle.octets.specs.Search.{anyOf}
+use Rattle.catalog.specs.Table.{absent, rows, trtpOf, knownTo, isActivities}
 use Rattle.catalog.proofs.Entries.{at-entry}
 
 -- the constant of the code
@@ -43,21 +42,21 @@ no-kind row kind h = sym (List·getD-eq-default (getD rows row []) absent (omega
 pub no-row : (row kind : ℕ) → 6 ≤ row → absent ≡ trtpOf row kind
 no-row row kind h = rw (List·getD-eq-default rows [] {n = row} h)
 
--- The search of a column: what is left decides
-module _ (kind byte row : ℕ) (more : row < 6) where
-  turn : inColumn kind byte (drop row rows) ≡ (eqb (trtpOf row kind) byte || inColumn kind byte (drop (row + 1) rows))
-  turn = rw (add-one, drop-cons rows row [] more)
+-- The search of a column
+module _ (kind byte : ℕ) where
+  abbrev pub stands : ℕ → Bool
+  stands type = eqb (trtpOf type kind) byte
 
-  pub column-hit : (r : ℕ) → (byte ≡ absent → ⊥) → inColumn kind byte rows ≡ inColumn kind byte (drop row rows) → r ≡ trtpOf row kind → r ≡ byte → true ≡ knownTo kind byte
+  pub known-by : (r : Bool) → (byte ≡ absent → ⊥) → r ≡ anyOf stands 6 → r ≡ knownTo kind byte
   unfolding knownTo
-  column-hit r n e q h = rw (ne-eqb byte absent n) (sym (e ∙ turn ∙ rw (eq-eqb (trtpOf row kind) byte (sym q ∙ h))))
+  known-by r n e = rw (ne-eqb byte absent n) e
 
-  pub column-miss : (r : ℕ) → inColumn kind byte rows ≡ inColumn kind byte (drop row rows) → r ≡ trtpOf row kind → (r ≡ byte → ⊥) → inColumn kind byte rows ≡ inColumn kind byte (drop (row + 1) rows)
-  column-miss r e q h = e ∙ turn ∙ rw (ne-eqb (trtpOf row kind) byte (λ z. h (q ∙ z)))
+  module _ (row : ℕ) (r : ℕ) (q : r ≡ trtpOf row kind) where
+    pub stands-here : r ≡ byte → stands row ≡ true
+    stands-here h = eq-eqb (trtpOf row kind) byte (sym q ∙ h)
 
-pub column-end : (kind byte row : ℕ) → (byte ≡ absent → ⊥) → 6 ≤ row → inColumn kind byte rows ≡ inColumn kind byte (drop row rows) → false ≡ knownTo kind byte
-unfolding knownTo
-column-end kind byte row n h e = rw (ne-eqb byte absent n) (sym (e ∙ rw (drop-of-length-le rows {i = row} h)))
+    pub stands-not : (r ≡ byte → ⊥) → stands row ≡ false
+    stands-not h = ne-eqb (trtpOf row kind) byte (λ z. h (q ∙ z))
 
 pub absent-unknown : (kind byte : ℕ) → byte ≡ absent → false ≡ knownTo kind byte
 unfolding knownTo

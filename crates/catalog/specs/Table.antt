@@ -1,9 +1,10 @@
 -- The table of document 01, Transfer types (DDP_011): TRTP by transfer type and kind.
 use Prim.Native.Nat.{ℕ}
-use mathlib.Core.Bool.{Bool, false, not, _&&_, _||_}
+use mathlib.Core.Bool.{Bool, not, _&&_, _||_}
 use mathlib.Core.List.{List, [], _∷_}
-use lib.ListN.{getD}
+use lib.ListN.{length, getD}
 use lib.Dec.{eqb}
+use Rattle.octets.specs.Search.{anyOf}
 
 -- no TRTP: stands where a kind has no such transfer type
 abbrev pub absent : ℕ
@@ -24,14 +25,9 @@ rows =
 abbrev pub trtpOf : ℕ → ℕ → ℕ
 trtpOf type kind = getD (getD rows type []) kind absent
 
--- the byte stands in that column of one of the rows
-abbrev pub inColumn : ℕ → ℕ → List (List ℕ) → Bool
-inColumn kind byte [] = false
-inColumn kind byte (row ∷ more) = eqb (getD row kind absent) byte || inColumn kind byte more
-
--- "A unit is of one kind and knows only its column"; an absent entry is known to none
+-- "A unit is of one kind and knows only its column": the byte stands in it; an absent entry is known to none
 unfoldable pub knownTo : ℕ → ℕ → Bool
-knownTo kind byte = not (eqb byte absent) && inColumn kind byte rows
+knownTo kind byte = not (eqb byte absent) && anyOf (λ type. eqb (trtpOf type kind) byte) (length rows)
 
 -- in the table at all
 unfoldable pub listed : ℕ → Bool

@@ -6,9 +6,10 @@ use Rattle.catalog.specs.Table.{knownTo, listed, isActivities}
 use Rattle.catalog.specs.Name.{firstSecond, dayNamed, sameAnswer, nameNumber}
 use Rattle.split.specs.Split.{countOf, carries, subField, subFrame}
 use Rattle.split.specs.Join.{isAnswer, receivedAs}
-use Rattle.store.specs.Layout.{nameAt}
-use Rattle.store.specs.Check.{headerFits, countsFit, placeRight, placesRight, answerRight, answersRight, namedFrom, namesDiffer, storeNumber}
-use Rattle.store.specs.Read.{positionFrom, lookupNumber, lookupPlace, lookupPart}
+use Rattle.octets.specs.Search.{firstFrom}
+use Rattle.store.specs.Layout.{headerSize, entrySize, entriesSize, nameAt}
+use Rattle.store.specs.Check.{headerFits, countsFit, filledTo, placeRight, placesRight, answerRight, answersRight, repeats, namesDiffer, storeNumber}
+use Rattle.store.specs.Read.{lookupNumber, lookupPlace, lookupPart}
 use Rattle.unit.specs.State.{sendable, phasePossible, possibleAt, possible}
 use Rattle.unit.specs.Services.{requestName, answerFrom, onTransfer, onCode, onSending, onAcknowledge}
 use Rattle.unit.specs.Call.{onData, reactionAt, reactionTo, stateAfter as unitAfter, replyData, replyTo, numberBefore, unitNumber, unitState, unitReply, unitResult}
@@ -19,7 +20,7 @@ use Rattle.tool.specs.Call.{requestNumber, beginNumber, beginState, beginSent, 
 
 -- a lookup in a store
 unfoldable pub lookups : Unit {0}
-unfolding numberAt nameAt headerFits countsFit placeRight placesRight answerRight answersRight namedFrom namesDiffer storeNumber positionFrom lookupNumber lookupPlace lookupPart knownTo listed isActivities firstSecond dayNamed sameAnswer nameNumber
+unfolding numberAt firstFrom headerSize entrySize entriesSize nameAt headerFits countsFit filledTo placeRight placesRight answerRight answersRight repeats namesDiffer storeNumber lookupNumber lookupPlace lookupPart knownTo listed isActivities firstSecond dayNamed sameAnswer nameNumber
 lookups = tt
 
 -- calls of both ends

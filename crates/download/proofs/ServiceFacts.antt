@@ -54,7 +54,7 @@ ranges store u h =
 pub sending-held : (store : List ℕ) (name : AnswerName) (last : SubMessage) → phasePossible (lookupPlace narrow name store) (Sending name last) ≡ true → lookupNumber narrow name store ≡ 0
 unfolding phasePossible sendable
 sending-held store name last h =
-    sym (number-of-place store name (lookupPlace narrow name store) refl) ∙ eqb-true _ _ (and-left (eqb (lookupPlace narrow name store .number) 0) _ h)
+    sym (number-of-place narrow store name (lookupPlace narrow name store) refl) ∙ eqb-true _ _ (and-left (eqb (lookupPlace narrow name store .number) 0) _ h)
 
 -- Reading a request back
 

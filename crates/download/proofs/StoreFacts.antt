@@ -22,10 +22,10 @@ pub record Held (store : List ℕ) (name : AnswerName) (answer : List ℕ) : Typ
 pub held-place : (s : List ℕ) (name : AnswerName) → lookupNumber narrow name s ≡ 0 → Held s name (lookupPart narrow name s)
 unfolding lookupPart
 held-place s name z =
-    let f = found name s z in
+    let f = found narrow name s z in
     record {
       number = ap (λ (p : Place). p .number) (f .place);
-      len = ap (λ (p : Place). p .len) (f .place) ∙ sym (ap length (f .part) ∙ answer-length s (f .whole) (position narrow name s) (f .below));
+      len = ap (λ (p : Place). p .len) (f .place) ∙ sym (ap length (f .part) ∙ answer-length narrow s (f .whole) (position narrow name s) (f .below));
       part = refl;
       shape = f .begins;
       most = f .most;

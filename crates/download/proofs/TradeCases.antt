@@ -120,7 +120,7 @@ module _ (store : List ℕ) (u : UnitState) (room : ℕ) (c : Called store u roo
       → unitReply lab store room u (frameOf lab ends.Unit (transferRequest name)) ≡ 0x80 ∷ 0xF0 ∷ 0xEE ∷ 0x03 ∷ 0x7F ∷ 0x36 ∷ 0xFA ∷ 0x10 ∷ []
   unfolding answerFrom closed frameOf replyData replyTo
   w4 name q g n =
-      let z : lookupPlace narrow name store .number ≡ 6 = number-of-place store name (lookupPlace narrow name store) refl ∙ n in
+      let z : lookupPlace narrow name store .number ≡ 6 = number-of-place narrow store name (lookupPlace narrow name store) refl ∙ n in
       transfer-reply name (Negative 0x36 0xFA) q (granted-open (u .phase) g) (rw (g, z))
 
   w5 : (name : AnswerName) → Asked u name → u .phase ≡ Session

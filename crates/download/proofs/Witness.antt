@@ -6,8 +6,8 @@ use mathlib.Core.Path.{_≡_, refl}
 use native.Mathlib.Omega.{arith}
 use lib.ListN.{replicate}
 use Rattle.frame.specs.Frame.{lab}
-use Rattle.catalog.specs.Table.{knownTo, listed, isActivities}
-use Rattle.catalog.specs.Name.{firstSecond, dayNamed, nameNumber}
+use Rattle.catalog.specs.Table.{knownTo}
+use Rattle.catalog.specs.Name.{nameNumber}
 use Rattle.catalog.specs.declared.AnswerName.{AnswerName}
 use Rattle.split.specs.Codes.{sub}
 use Rattle.split.specs.Split.{countOf}
@@ -82,19 +82,19 @@ unfolding lookups countOf possible possibleAt sendable phasePossible
 possible-sending = refl
 
 known-interface : knownTo 2 0x00 ≡ true
-unfolding knownTo
+unfolding lookups
 known-interface = refl
 
 named-interface : nameNumber interface ≡ 0
-unfolding knownTo listed isActivities firstSecond dayNamed nameNumber
+unfolding lookups
 named-interface = refl
 
 known-overview : knownTo 2 0x31 ≡ true
-unfolding knownTo
+unfolding lookups
 known-overview = refl
 
 named-overview : nameNumber overview ≡ 0
-unfolding knownTo listed isActivities firstSecond dayNamed nameNumber
+unfolding lookups
 named-overview = refl
 
 -- three frames, the unit granted

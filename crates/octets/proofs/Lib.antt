@@ -6,3 +6,4 @@ pub mod NumberLaws
 pub mod PartLaws
 pub mod OrderLaws
 pub mod CallLaws
+pub mod SearchLaws

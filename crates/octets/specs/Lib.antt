@@ -4,3 +4,4 @@ pub mod Numbers
 pub mod Sum
 pub mod Buffer
 pub mod BigEndian
+pub mod Search

@@ -16,9 +16,9 @@ use Rattle.octets.proofs.CallLaws.{changed-by}
 use Rattle.catalog.specs.Name.{nameNumber}
 use Rattle.octets.proofs.OrderLaws.{unless-is, or-zero}
 use Rattle.octets.proofs.PartLaws.{part-left, part-take, number-behind, front-kept, front-same}
-use Rattle.store.specs.Layout.{narrow, answers, streamLength, streamStart, storeLength, streamOf}
+use Rattle.store.specs.Layout.{narrow, headerSize, entrySize, entriesSize, answers, streamLength, streamStart, storeLength, streamOf}
 use Rattle.store.specs.Check.{storeNumber}
-use Rattle.store.specs.Read.{position}
+use Rattle.store.specs.Read.{position, isHeld}
 use Rattle.store.specs.Append.{nameOf, answerNumber, roomNumber, appendNumber, withAnswer}
 
 -- The name of an answer to append
@@ -62,13 +62,13 @@ module _ (m : ℕ) (s : List ℕ) (n : ℕ) (en : n ≡ answers narrow s) where
 
 module _ (m : ℕ) (s : List ℕ) (n t b : ℕ) (en : n ≡ answers narrow s) (et : t ≡ streamLength narrow s) (eb : b ≡ streamStart narrow s) where
   pub room-short : n + 1 ≤ 64 → t + m ≤ 60000 → length s < b + t + 8 + m → 4 ≡ roomNumber narrow m s
-  unfolding roomNumber
+  unfolding roomNumber headerSize entrySize entriesSize
   room-short p q h =
       let d : b ≡ 4 + 8 * n = rw en eb in
       rw (← en, ← et, le-leb (n + 1) 64 p, le-leb (t + m) 60000 q, lt-leb (4 + 8 * n + t + 8 + m) (length s) (omega arith))
 
   pub room-some : n + 1 ≤ 64 → t + m ≤ 60000 → b + t + 8 + m ≤ length s → 0 ≡ roomNumber narrow m s
-  unfolding roomNumber
+  unfolding roomNumber headerSize entrySize entriesSize
   room-some p q h =
       let d : b ≡ 4 + 8 * n = rw en eb in
       rw (← en, ← et, le-leb (n + 1) 64 p, le-leb (t + m) 60000 q, le-leb (4 + 8 * n + t + 8 + m) (length s) (omega arith))
@@ -96,7 +96,7 @@ module _ (a : List ℕ) (day : ℕ) (s : List ℕ) (r : ℕ) (er : r ≡ storeNu
       pub append-room : (q : ℕ) → n ≤ i → q ≡ roomNumber narrow (length a) s → q ≡ appendNumber narrow a day s
       unfolding appendNumber
       append-room q h e =
-          let f : ltb (position narrow (nameOf a day) s) (answers narrow s) ≡ false = rw (← here, ← en) (le-ltb i n h) in
+          let f : isHeld narrow (nameOf a day) s ≡ false = rw (← here, ← en) (le-ltb i n h) in
           rw (← er, zr, ← eu, zu, f) e
 
 -- What number 0 says of an append
@@ -107,7 +107,7 @@ pub record Accepted (a : List ℕ) (day : ℕ) (s : List ℕ) : Type 0 where
   pub fresh : answers narrow s ≤ position narrow (nameOf a day) s
   pub count : answers narrow s + 1 ≤ 64
   pub stream : streamLength narrow s + length a ≤ 60000
-  pub room : storeLength narrow s + 8 + length a ≤ length s
+  pub room : storeLength narrow s + entrySize narrow + length a ≤ length s
 
 pub accepted : (a : List ℕ) (day : ℕ) (s : List ℕ) → appendNumber narrow a day s ≡ 0 → Accepted a day s
 unfolding appendNumber roomNumber
@@ -138,10 +138,12 @@ module _ (a : List ℕ) (day : ℕ) (s : List ℕ) (r : ℕ) (e : r ≡ appendNu
   pub accepted-stream : streamLength narrow s + length a ≤ 60000
   accepted-stream = accepted a day s (sym e ∙ z) .stream
 
-  pub accepted-room : storeLength narrow s + 8 + length a ≤ length s
+  pub accepted-room : storeLength narrow s + entrySize narrow + length a ≤ length s
+  unfolding headerSize entrySize entriesSize
   accepted-room = accepted a day s (sym e ∙ z) .room
 
-  pub accepted-length : (b t : ℕ) → b ≡ streamStart narrow s → t ≡ streamLength narrow s → b + t + 8 + length a ≡ changedBy (appendNumber narrow a day s) (storeLength narrow s + 8 + length a) 0
+  pub accepted-length : (b t : ℕ) → b ≡ streamStart narrow s → t ≡ streamLength narrow s → b + t + 8 + length a ≡ changedBy (appendNumber narrow a day s) (storeLength narrow s + entrySize narrow + length a) 0
+  unfolding headerSize entrySize entriesSize
   accepted-length b t p q = changed-by r _ _ _ 0 e z (rw (p, q))
 
 -- The header: two fields at the front
@@ -172,12 +174,14 @@ regroup c t e d o l s a = simp append-assoc
 
 -- The whole append: the stream moved up, the header, the entry, the answer
 module _ (a : List ℕ) (day : ℕ) (s : List ℕ) (n t b : ℕ) (en : n ≡ answers narrow s) (et : t ≡ streamLength narrow s) (eb : b ≡ streamStart narrow s)
-    (room : storeLength narrow s + 8 + length a ≤ length s) (o₁ o₂ o₃ : List ℕ) (e₁ : o₁ ≡ shifted b (b + t) 8 s)
+    (room : storeLength narrow s + entrySize narrow + length a ≤ length s) (o₁ o₂ o₃ : List ℕ) (e₁ : o₁ ≡ shifted b (b + t) 8 s)
     (e₂ : o₂ ≡ front (bytesOf 2 (n + 1) ++ bytesOf 2 (t + length a)) o₁) (e₃ : o₃ ≡ put b (bytesOf 4 day ++ (bytesOf 2 t ++ bytesOf 2 (length a))) o₂) where
   places : b ≡ 4 + 8 * n
+  unfolding headerSize entrySize entriesSize
   places = rw en eb
 
   fits : b + t + 8 + length a ≤ length s
+  unfolding headerSize entrySize entriesSize
   fits = rw (eb, et) room
 
   f₁ : o₁ ≡ take (b + 8) s ++ (slice b (b + t) s ++ drop (b + t + 8) s)
@@ -191,6 +195,7 @@ module _ (a : List ℕ) (day : ℕ) (s : List ℕ) (n t b : ℕ) (en : n ≡ ans
 
   -- the old entries stay where they were, the stream lies one entry higher, and what is behind the new store stays
   entries : partAt 4 (8 * n) o₁ ≡ partAt 4 (8 * n) s
+  unfolding headerSize entrySize entriesSize
   entries =
       let h = fits in
       let q = places in
@@ -223,7 +228,7 @@ module _ (a : List ℕ) (day : ℕ) (s : List ℕ) (n t b : ℕ) (en : n ≡ ans
   beforeAnswer = (beforeEntry ++ (bytesOf 4 day ++ (bytesOf 2 t ++ bytesOf 2 (length a)))) ++ partAt b t s
 
   long-entry : length beforeEntry ≡ b
-  unfolding beforeEntry
+  unfolding beforeEntry headerSize entrySize entriesSize
   long-entry =
       let h = fits in
       let q = places in
@@ -238,7 +243,7 @@ module _ (a : List ℕ) (day : ℕ) (s : List ℕ) (n t b : ℕ) (en : n ≡ ans
 
   -- after the three writes all but the answer stands
   all : o₃ ≡ front beforeAnswer o₁
-  unfolding beforeEntry beforeAnswer
+  unfolding beforeEntry beforeAnswer headerSize entrySize entriesSize
   all =
       let h = fits in
       let q = places in
@@ -254,7 +259,7 @@ module _ (a : List ℕ) (day : ℕ) (s : List ℕ) (n t b : ℕ) (en : n ≡ ans
   l₃ = rw (all, length-front beforeAnswer o₁ (omega (arith, long-answer, fits, l₁))) l₁
 
   whole : beforeAnswer ++ a ≡ withAnswer narrow a day s
-  unfolding beforeEntry beforeAnswer withAnswer
+  unfolding beforeEntry beforeAnswer withAnswer headerSize entrySize entriesSize
   whole =
       rw (en, et, eb)
       (regroup (bytesOf 2 (answers narrow s + 1)) (bytesOf 2 (streamLength narrow s + length a)) (partAt 4 (8 * answers narrow s) s) (bytesOf 4 day) (bytesOf 2 (streamLength narrow s))

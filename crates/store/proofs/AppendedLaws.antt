@@ -9,7 +9,7 @@ use lib.Seq.{drop-at, take-length}
 use Rattle.octets.specs.Buffer.{partAt, front}
 use Rattle.octets.specs.BigEndian.{bytesOf, fieldWidth, numberAt}
 use Rattle.octets.proofs.BufferLaws.{length-front, length-part}
-use Rattle.store.specs.Layout.{narrow, answers, streamLength, entryDay, entryOffset, entryLength, answerStart, streamOf, answerAt, nameAt}
+use Rattle.store.specs.Layout.{narrow, headerSize, entrySize, entriesSize, answers, streamLength, entryDay, entryOffset, entryLength, answerStart, streamOf, answerAt, nameAt}
 use Rattle.store.specs.Append.{nameOf, appendNumber, withAnswer, appendOut}
 use Rattle.octets.proofs.PartLaws.{part-left, part-in, part-here, byte-in, number-in, number-here}
 use Rattle.store.proofs.StoreLaws.{held}
@@ -89,25 +89,27 @@ module _ (a : List ℕ) (day : ℕ) (s : List ℕ) (taken : appendNumber narrow 
   r = drop (length (withAnswer narrow a day s)) s
 
   is : after ≡ built c u e d o l x r
-  unfolding appendOut withAnswer front built
+  unfolding appendOut withAnswer front built headerSize entrySize entriesSize
   is = rw taken
 
   ok : Accepted a day s
   ok = accepted a day s taken
 
   long-e : length e ≡ 8 * n
+  unfolding headerSize entrySize entriesSize
   long-e = length-part s 4 (8 * n) (omega (arith, ok .room))
 
   long-x : length x ≡ t + m
+  unfolding headerSize entrySize entriesSize
   long-x = length-append (streamOf narrow s) a ∙ omega (arith, length-part s (4 + 8 * n) t (omega (arith, ok .room)))
 
   long : length (withAnswer narrow a day s) ≡ 4 + 8 * n + t + 8 + m
-  unfolding withAnswer
+  unfolding withAnswer headerSize entrySize entriesSize
   long = omega (arith, long-e, long-x, length-append e (d ++ (o ++ (l ++ x))))
 
   -- the buffer keeps its length
   pub after-length : length after ≡ length s
-  unfolding appendOut
+  unfolding appendOut headerSize entrySize entriesSize
   after-length = rw taken (length-front (withAnswer narrow a day s) s (omega (arith, long, ok .room)))
 
   -- one answer more, and as many stream bytes more as it has
@@ -118,29 +120,35 @@ module _ (a : List ℕ) (day : ℕ) (s : List ℕ) (taken : appendNumber narrow 
   after-stream = ap (numberAt 2 2) (is ∙ at-stream c u e d o l x r) ∙ number-here 2 2 (t + m) c _ refl refl (omega (arith, ok .stream))
 
   entries : partAt 4 (8 * n) after ≡ e
+  unfolding headerSize entrySize entriesSize
   entries = ap (partAt 4 (8 * n)) (is ∙ at-entries c u e d o l x r) ∙ part-here 4 (8 * n) (c ++ u) e _ refl long-e
 
   -- the fields of the new entry
   pub day-new : entryDay narrow n after ≡ day
+  unfolding headerSize entrySize entriesSize
   day-new = ap (numberAt 4 (4 + 8 * n)) (is ∙ at-day c u e d o l x r) ∙ number-here 4 (4 + 8 * n) day (c ++ (u ++ e)) _ refl (omega (arith, long-e)) (omega arith)
 
   pub offset-new : entryOffset narrow n after ≡ t
+  unfolding headerSize entrySize entriesSize
   offset-new =
       ap (numberAt 2 (4 + 8 * n + 4)) (is ∙ at-offset c u e d o l x r)
       ∙ number-here 2 (4 + 8 * n + 4) t (c ++ (u ++ (e ++ d))) _ refl (omega (arith, long-e, length-append e d)) (omega (arith, ok .stream))
 
   pub length-new : entryLength narrow n after ≡ m
+  unfolding headerSize entrySize entriesSize
   length-new =
       ap (numberAt 2 (4 + 8 * n + 4 + 2)) (is ∙ at-length c u e d o l x r)
       ∙ number-here 2 (4 + 8 * n + 4 + 2) m (c ++ (u ++ (e ++ (d ++ o)))) _ refl (omega (arith, long-e, length-append e (d ++ o))) (omega (arith, ok .stream))
 
   stream-at : partAt (4 + 8 * n + 8) (t + m) after ≡ x
+  unfolding headerSize entrySize entriesSize
   stream-at =
       ap (partAt (4 + 8 * n + 8) (t + m)) (is ∙ at-answers c u e d o l x r)
       ∙ part-here (4 + 8 * n + 8) (t + m) (c ++ (u ++ (e ++ (d ++ (o ++ l))))) x r (omega (arith, long-e, length-append e (d ++ (o ++ l)))) long-x
 
   -- the stream grows by the answer
   pub stream-new : streamOf narrow after ≡ streamOf narrow s ++ a
+  unfolding headerSize entrySize entriesSize
   stream-new =
       let b : 4 + 8 * answers narrow after ≡ 4 + 8 * n + 8 = omega (arith, after-count) in
       rw (b, after-stream) stream-at
@@ -148,6 +156,7 @@ module _ (a : List ℕ) (day : ℕ) (s : List ℕ) (taken : appendNumber narrow 
   -- the old entries stay
   module _ (i : ℕ) (old : i < n) where
     entry-kept : (w k at : ℕ) → fieldWidth w ≡ true → k + w ≤ 8 → at ≡ 4 + (8 * i + k) → numberAt w at after ≡ numberAt w at s
+    unfolding headerSize entrySize entriesSize
     entry-kept w k at f h q =
         let room = ok .room in
         let same = after-length in
@@ -157,19 +166,22 @@ module _ (a : List ℕ) (day : ℕ) (s : List ℕ) (taken : appendNumber narrow 
         ∙ sym (number-in 4 (8 * n) (8 * i + k) w s f (omega arith) (omega arith)))
 
     pub day-kept : entryDay narrow i after ≡ entryDay narrow i s
+    unfolding headerSize entrySize entriesSize
     day-kept = entry-kept 4 0 (4 + 8 * i) refl (omega arith) (omega arith)
 
     pub offset-kept : entryOffset narrow i after ≡ entryOffset narrow i s
+    unfolding headerSize entrySize entriesSize
     offset-kept = entry-kept 2 4 (4 + 8 * i + 4) refl (omega arith) (omega arith)
 
     pub length-kept : entryLength narrow i after ≡ entryLength narrow i s
+    unfolding headerSize entrySize entriesSize
     length-kept = entry-kept 2 6 (4 + 8 * i + 4 + 2) refl (omega arith) (omega arith)
 
     -- and so do the answers
     pub answer-kept : answerAt narrow i after ≡ answerAt narrow i s
-    unfolding answerAt
+    unfolding answerAt headerSize entrySize entriesSize
     answer-kept =
-        let h = held s (ok .unbroken) i old in
+        let h = held narrow s (ok .unbroken) i old in
         let room = ok .room in
         let same = after-length in
         let b : ℕ = 4 + 8 * n in
@@ -185,9 +197,9 @@ module _ (a : List ℕ) (day : ℕ) (s : List ℕ) (taken : appendNumber narrow 
         ∙ sym (part-in b t p k s inside (omega arith)))
 
     pub name-kept : nameAt narrow i after ≡ nameAt narrow i s
-    unfolding nameAt answerAt
+    unfolding nameAt answerAt headerSize entrySize entriesSize
     name-kept =
-        let h = held s (ok .unbroken) i old in
+        let h = held narrow s (ok .unbroken) i old in
         let two : 1 < entryLength narrow i s = omega (arith, h .long) in
         let new : getD after (answerStart narrow i after + 1) 0 ≡ getD (answerAt narrow i after) 1 0 = byte-in (answerStart narrow i after) (entryLength narrow i after) 1 after (rw length-kept two) in
         let was : getD s (answerStart narrow i s + 1) 0 ≡ getD (answerAt narrow i s) 1 0 = byte-in (answerStart narrow i s) (entryLength narrow i s) 1 s two in
@@ -197,7 +209,7 @@ module _ (a : List ℕ) (day : ℕ) (s : List ℕ) (taken : appendNumber narrow 
 
   -- the new answer is the last one
   pub answer-new : answerAt narrow n after ≡ a
-  unfolding answerAt
+  unfolding answerAt headerSize entrySize entriesSize
   answer-new =
       let room = ok .room in
       let same = after-length in
@@ -211,7 +223,7 @@ module _ (a : List ℕ) (day : ℕ) (s : List ℕ) (taken : appendNumber narrow 
       ∙ take-length a)
 
   pub name-new : nameAt narrow n after ≡ nameOf a day
-  unfolding nameAt answerAt
+  unfolding nameAt answerAt headerSize entrySize entriesSize
   name-new =
       let two : 2 ≤ m = answer-long a day (ok .listed) in
       let new : getD after (answerStart narrow n after + 1) 0 ≡ getD (answerAt narrow n after) 1 0 = byte-in (answerStart narrow n after) (entryLength narrow n after) 1 after (omega (arith, length-new)) in

@@ -1,189 +1,187 @@
--- The five checks, from the tests of the code: each loop a turn at a time, where what is left decides.
+-- The five checks, from the tests of the code.
 use Prim.Native.Nat.{ℕ, suc, _+_, _-_, _*_, _<_, _≤_}
-use mathlib.Core.Bool.{Bool, true, false, not, _&&_, _||_}
+use mathlib.Core.Bool.{Bool, true, false, not, _&&_}
 use mathlib.Core.List.{List, [], _∷_}
-use mathlib.Core.Path.{_≡_, refl, sym, _∙_}
+use mathlib.Core.Path.{_≡_, refl, sym, ap, _∙_}
 use native.Mathlib.Omega.{arith}
-use native.Mathlib.Nat.{sub-zero}
+use native.Mathlib.Numerals.{add-one}
 use lib.Dec.{eqb, leb}
 use lib.ListN.{length, getD}
 use borrow.Author.Tests.{le-leb, lt-leb, eq-eqb, ne-eqb, leb-true}
 use Rattle.octets.specs.BigEndian.{numberOf}
+use Rattle.octets.specs.Search.{anyOf, noneOf}
 use Rattle.octets.proofs.Tests.{and-right}
 use Rattle.octets.proofs.OrderLaws.{unless-is}
 use Rattle.octets.proofs.NumberLaws.{read-two, read-four}
 use Rattle.catalog.specs.Name.{sameAnswer, nameNumber}
 use Rattle.catalog.specs.declared.AnswerName.{AnswerName}
 use Rattle.catalog.proofs.NameLaws.{other-day}
-use Rattle.store.specs.Layout.{narrow, answers, streamLength, streamStart, storeLength, entryDay, entryOffset, entryLength, answerStart, nameAt}
-use Rattle.store.specs.Check.{headerFits, countsFit, placeRight, placesRight, answerRight, answersRight, namedFrom, namesDiffer, storeNumber}
+use Rattle.store.specs.Layout.{Form, narrow, headerSize, entrySize, entryStart, answers, streamLength, streamStart, storeLength, entryDay, entryOffset, entryLength, answerStart, nameAt}
+use Rattle.store.specs.Check.{headerFits, countsFit, filledTo, placeRight, placesRight, answerRight, answersRight, repeats, namesDiffer, storeNumber}
+use Rattle.store.proofs.FormLaws.{entry-size, entry-below, narrow-start, narrow-entry}
 
--- the fields of an entry that lies in the buffer, from its bytes
-module _ (s : List ℕ) (i r : ℕ) (h : 12 + 8 * i ≤ length s) where
-  pub day-read : r ≡ numberOf (getD s (4 + 8 * i) 0 ∷ getD s (4 + 8 * i + 1) 0 ∷ getD s (4 + 8 * i + 2) 0 ∷ getD s (4 + 8 * i + 3) 0 ∷ []) → r ≡ entryDay narrow i s
-  day-read e = read-four (4 + 8 * i) s r 4 (omega arith) (omega arith) refl e
+-- the fields of an entry that lies in the buffer, from its bytes; at is where it starts
+module _ (f : Form) (s : List ℕ) (i r at : ℕ) (h : entryStart f i + entrySize f ≤ length s) (e : at ≡ entryStart f i) where
+  pub day-read : r ≡ numberOf (getD s at 0 ∷ getD s (at + 1) 0 ∷ getD s (at + 2) 0 ∷ getD s (at + 3) 0 ∷ []) → r ≡ entryDay f i s
+  day-read q = rw (← e) (read-four at s r 4 (omega (arith, entry-size f)) (omega (arith, entry-size f)) refl q)
 
-  pub offset-read : r ≡ numberOf (getD s (4 + 8 * i + 4) 0 ∷ getD s (4 + 8 * i + 4 + 1) 0 ∷ []) → r ≡ entryOffset narrow i s
-  offset-read e = read-two (4 + 8 * i + 4) s r 2 (omega arith) (omega arith) refl e
+  module _ (two : f .width ≡ 2) where
+    pub offset-read : r ≡ numberOf (getD s (at + 4) 0 ∷ getD s (at + 4 + 1) 0 ∷ []) → r ≡ entryOffset f i s
+    offset-read q = rw (← e) (read-two (at + 4) s r (f .width) (omega (arith, entry-size f)) (omega (arith, entry-size f)) two q)
 
-  pub length-read : r ≡ numberOf (getD s (4 + 8 * i + 4 + 2) 0 ∷ getD s (4 + 8 * i + 4 + 2 + 1) 0 ∷ []) → r ≡ entryLength narrow i s
-  length-read e = read-two (4 + 8 * i + 4 + 2) s r 2 (omega arith) (omega arith) refl e
+    pub length-read : r ≡ numberOf (getD s (at + 4 + 2) 0 ∷ getD s (at + 4 + 2 + 1) 0 ∷ []) → r ≡ entryLength f i s
+    length-read q =
+        let p : entryStart f i + 4 + f .width ≡ at + 4 + 2 = omega arith in
+        rw p (read-two (at + 4 + 2) s r (f .width) (omega (arith, entry-size f)) (omega (arith, entry-size f)) two q)
 
 -- which entries lie in it
-pub header-start : (s : List ℕ) → headerFits narrow s ≡ true → streamStart narrow s ≤ length s
-unfolding headerFits
-header-start s h = let w : storeLength narrow s ≤ length s = leb-true _ _ (and-right (leb 4 (length s)) _ h) in omega arith
+module _ (f : Form) (s : List ℕ) where
+  pub header-start : headerFits f s ≡ true → streamStart f s ≤ length s
+  unfolding headerFits
+  header-start h = let w : storeLength f s ≤ length s = leb-true _ _ (and-right (leb (headerSize f) (length s)) _ h) in omega arith
 
-whole-header : (s : List ℕ) → storeNumber narrow s ≡ 0 → headerFits narrow s ≡ true
-unfolding storeNumber
-whole-header s e = unless-is (headerFits narrow s) 5 _ 0 refl e .first
+  whole-header : storeNumber f s ≡ 0 → headerFits f s ≡ true
+  unfolding storeNumber
+  whole-header e = unless-is (headerFits f s) 5 _ 0 refl e .first
 
-pub checked-start : (s : List ℕ) → storeNumber narrow s ≡ 0 → streamStart narrow s ≤ length s
-checked-start s z = header-start s (whole-header s z)
+  pub checked-start : storeNumber f s ≡ 0 → streamStart f s ≤ length s
+  checked-start z = header-start (whole-header z)
 
-pub whole-start : (s : List ℕ) (r : ℕ) → r ≡ storeNumber narrow s → r ≡ 0 → streamStart narrow s ≤ length s
-whole-start s r e z = checked-start s (sym e ∙ z)
+  pub whole-start : (r : ℕ) → r ≡ storeNumber f s → r ≡ 0 → streamStart f s ≤ length s
+  whole-start r e z = checked-start (sym e ∙ z)
 
-module _ (s : List ℕ) (i n : ℕ) (q : n ≡ answers narrow s) (h : i < n) where
-  entry-in : streamStart narrow s ≤ length s → 12 + 8 * i ≤ length s
-  entry-in l = omega arith
+  module _ (i n : ℕ) (h : i < n) where
+    pub entry-before : entryStart f n ≤ length s → entryStart f i + entrySize f ≤ length s
+    entry-before l = omega (arith, entry-below f i n h)
 
-  pub checked-entry : storeNumber narrow s ≡ 0 → 12 + 8 * i ≤ length s
-  checked-entry z = entry-in (checked-start s z)
+    -- the entries before it lie there too
+    pub start-in : n ≡ answers f s → streamStart f s ≤ length s → entryStart f i ≤ length s
+    start-in q l = omega (arith, entry-below f i n h, rw (← q) at l)
 
-  pub whole-entry : (r : ℕ) → r ≡ storeNumber narrow s → r ≡ 0 → 12 + 8 * i ≤ length s
-  whole-entry r e z = entry-in (whole-start s r e z)
+    module _ (q : n ≡ answers f s) where
+      pub entry-in : streamStart f s ≤ length s → entryStart f i + entrySize f ≤ length s
+      entry-in l = entry-before (rw q l)
+
+      pub checked-entry : storeNumber f s ≡ 0 → entryStart f i + entrySize f ≤ length s
+      checked-entry z = entry-in (checked-start z)
+
+      pub whole-entry : (r : ℕ) → r ≡ storeNumber f s → r ≡ 0 → entryStart f i + entrySize f ≤ length s
+      whole-entry r e z = entry-in (whole-start r e z)
 
 -- a name from its two parts
-pub name-is : (s : List ℕ) (i start trep day : ℕ) → start ≡ answerStart narrow i s → trep ≡ getD s (start + 1) 0 → day ≡ entryDay narrow i s → _≡_ {A = AnswerName} (record { trep = trep; day = day }) (nameAt narrow i s)
-unfolding nameAt
-name-is s i start trep day e t d = rw (t, d, e)
+module _ (f : Form) (s : List ℕ) (i : ℕ) where
+  pub name-is : (start trep day : ℕ) → start ≡ answerStart f i s → trep ≡ getD s (start + 1) 0 → day ≡ entryDay f i s → _≡_ {A = AnswerName} (record { trep = trep; day = day }) (nameAt f i s)
+  unfolding nameAt
+  name-is start trep day e t d = rw (t, d, e)
 
--- a name is compared by its day, then whole
-pub other-by-day : (s : List ℕ) (i day : ℕ) (name : AnswerName) → day ≡ entryDay narrow i s → (day ≡ name .day → ⊥) → false ≡ sameAnswer (nameAt narrow i s) name
-unfolding nameAt
-other-by-day s i day name d h = sym (other-day (nameAt narrow i s) name (rw d at h))
+  -- a name is compared by its day, then whole
+  pub other-by-day : (day : ℕ) (name : AnswerName) → day ≡ entryDay f i s → (day ≡ name .day → ⊥) → false ≡ sameAnswer (nameAt f i s) name
+  unfolding nameAt
+  other-by-day day name d h = sym (other-day (nameAt f i s) name (rw d at h))
 
-pub same-by-name : (s : List ℕ) (i : ℕ) (name other : AnswerName) (r : Bool) → other ≡ nameAt narrow i s → r ≡ sameAnswer other name → r ≡ sameAnswer (nameAt narrow i s) name
-same-by-name s i name other r e q = rw (← e) q
+  pub same-by-name : (name other : AnswerName) (r : Bool) → other ≡ nameAt f i s → r ≡ sameAnswer other name → r ≡ sameAnswer (nameAt f i s) name
+  same-by-name name other r e q = rw (← e) q
 
 -- Header and counts; b, t and n are what the code read
 
-module _ (s : List ℕ) where
-  pub header-short : length s < 4 → false ≡ headerFits narrow s
+module _ (f : Form) (s : List ℕ) where
+  pub header-short : (h : ℕ) → h ≡ headerSize f → length s < h → false ≡ headerFits f s
   unfolding headerFits
-  header-short h = rw (lt-leb 4 (length s) h)
+  header-short h e l = rw (← e, lt-leb h (length s) l)
 
-  pub header-is : (b t : ℕ) → 4 ≤ length s → b ≡ streamStart narrow s → t ≡ streamLength narrow s → leb (b + t) (length s) ≡ headerFits narrow s
+  pub header-is : (h b t : ℕ) → h ≡ headerSize f → h ≤ length s → b ≡ streamStart f s → t ≡ streamLength f s → leb (b + t) (length s) ≡ headerFits f s
   unfolding headerFits
-  header-is b t h p q = rw (le-leb 4 (length s) h, p, q)
+  header-is h b t e l p q = rw (le-leb (headerSize f) (length s) (omega arith), p, q)
 
-  pub counts-many : (n : ℕ) → n ≡ answers narrow s → 64 < n → false ≡ countsFit narrow s
+  pub counts-many : (n : ℕ) → n ≡ answers f s → f .answersMost < n → false ≡ countsFit f s
   unfolding countsFit
-  counts-many n p h = rw (← p, lt-leb n 64 h)
+  counts-many n p h = rw (← p, lt-leb n (f .answersMost) h)
 
-  pub counts-is : (n t : ℕ) → n ≡ answers narrow s → t ≡ streamLength narrow s → n ≤ 64 → leb t 60000 ≡ countsFit narrow s
+  pub counts-is : (n t : ℕ) → n ≡ answers f s → t ≡ streamLength f s → n ≤ f .answersMost → leb t (f .streamMost) ≡ countsFit f s
   unfolding countsFit
-  counts-is n t p q h = rw (← p, ← q, le-leb n 64 h)
+  counts-is n t p q h = rw (← p, ← q, le-leb n (f .answersMost) h)
 
 -- Places: the entries passed fill the stream up to at
 
-pub places-start : (s : List ℕ) (n : ℕ) → placesRight narrow n 0 0 s ≡ placesRight narrow (n - 0) 0 0 s
-places-start s n = rw sub-zero
+abbrev pub misplaced : Form → List ℕ → ℕ → Bool
+misplaced f s i = not (placeRight f i s)
 
-module _ (s : List ℕ) (n i at : ℕ) (whole : placesRight narrow n 0 0 s ≡ placesRight narrow (n - i) i at s) where
-  pub places-end : (t : ℕ) → n ≡ answers narrow s → t ≡ streamLength narrow s → n ≤ i → eqb at t ≡ placesRight narrow (answers narrow s) 0 0 s
+module _ (f : Form) (s : List ℕ) where
+  pub filled-none : 0 ≡ filledTo f 0 s
+  unfolding filledTo
+  filled-none = refl
+
+  module _ (i at l : ℕ) (filled : at ≡ filledTo f i s) (len : l ≡ entryLength f i s) where
+    pub filled-next : at + l ≡ filledTo f (i + 1) s
+    unfolding filledTo
+    filled-next = rw (filled, len, add-one i)
+
+    module _ (o : ℕ) (off : o ≡ entryOffset f i s) where
+      pub place-gap : (o ≡ at → ⊥) → misplaced f s i ≡ true
+      unfolding placeRight
+      place-gap h = rw (← off, ← filled, ne-eqb o at h)
+
+      module _ (here : o ≡ at) where
+        pub place-short : l < 2 → misplaced f s i ≡ true
+        unfolding placeRight
+        place-short h = rw (← off, ← filled, ← len, eq-eqb o at here, lt-leb 2 l h)
+
+        module _ (t : ℕ) (stream : t ≡ streamLength f s) (long : 2 ≤ l) where
+          pub place-past : t < at + l → misplaced f s i ≡ true
+          unfolding placeRight
+          place-past h = rw (← off, ← filled, ← len, ← stream, eq-eqb o at here, le-leb 2 l long, lt-leb (at + l) t h)
+
+          pub place-here : at + l ≤ t → misplaced f s i ≡ false
+          unfolding placeRight
+          place-here h = rw (← off, ← filled, ← len, ← stream, eq-eqb o at here, le-leb 2 l long, le-leb (at + l) t h)
+
+  -- an entry that is misplaced, or none and the stream filled or not
+  pub places-wrong : (n : ℕ) → n ≡ answers f s → false ≡ noneOf (misplaced f s) n → false ≡ placesRight f s
   unfolding placesRight
-  places-end t p q h = let e : n - i ≡ 0 = omega arith in rw (← p, whole, e, q)
+  places-wrong n p h = rw (← p, ← h)
 
-  module _ (more : i < n) (o l : ℕ) (off : o ≡ entryOffset narrow i s) (len : l ≡ entryLength narrow i s) where
-    places-turn : placesRight narrow n 0 0 s ≡ (eqb o at && (leb 2 l && leb (at + l) (streamLength narrow s)) && placesRight narrow (n - (i + 1)) (i + 1) (at + l) s)
-    unfolding placesRight placeRight
-    places-turn = let e : n - i ≡ suc (n - (i + 1)) = omega arith in rw (whole, e, off, len)
-
-    pub places-gap : n ≡ answers narrow s → (o ≡ at → ⊥) → false ≡ placesRight narrow (answers narrow s) 0 0 s
-    places-gap p h = rw (← p, places-turn, ne-eqb o at h)
-
-    module _ (here : o ≡ at) where
-      pub places-short : n ≡ answers narrow s → l < 2 → false ≡ placesRight narrow (answers narrow s) 0 0 s
-      places-short p h = rw (← p, places-turn, eq-eqb o at here, lt-leb 2 l h)
-
-      pub places-past : (t : ℕ) → n ≡ answers narrow s → t ≡ streamLength narrow s → 2 ≤ l → t < at + l → false ≡ placesRight narrow (answers narrow s) 0 0 s
-      places-past t p q m h = rw (← p, places-turn, eq-eqb o at here, le-leb 2 l m, ← q, lt-leb (at + l) t h)
-
-      pub places-more : (t : ℕ) → t ≡ streamLength narrow s → 2 ≤ l → at + l ≤ t → placesRight narrow n 0 0 s ≡ placesRight narrow (n - (i + 1)) (i + 1) (at + l) s
-      places-more t q m h = places-turn ∙ rw (eq-eqb o at here, le-leb 2 l m, ← q, le-leb (at + l) t h)
+  pub places-end : (n i at t : ℕ) → n ≡ answers f s → t ≡ streamLength f s → i ≤ n → n ≤ i → at ≡ filledTo f i s → true ≡ noneOf (misplaced f s) n → eqb at t ≡ placesRight f s
+  unfolding placesRight
+  places-end n i at t p q a b e h =
+      let z : i ≡ n = omega arith in
+      rw (← p, ← h, ← q, ← z, ← e)
 
 -- One answer; b is its first byte, r the number of its name
 
-module _ (s : List ℕ) (i start b : ℕ) (is-start : start ≡ answerStart narrow i s) (first : b ≡ getD s start 0) where
-  pub answer-other : (b ≡ 0x76 → ⊥) → false ≡ answerRight narrow i s
+module _ (f : Form) (s : List ℕ) (i start b : ℕ) (is-start : start ≡ answerStart f i s) (first : b ≡ getD s start 0) where
+  pub answer-other : (b ≡ 0x76 → ⊥) → false ≡ answerRight f i s
   unfolding answerRight
   answer-other h = rw (← is-start, ← first, ne-eqb b 0x76 h)
 
-  pub answer-is : (name : AnswerName) (r : ℕ) → b ≡ 0x76 → name ≡ nameAt narrow i s → r ≡ nameNumber name → eqb r 0 ≡ answerRight narrow i s
+  pub answer-is : (name : AnswerName) (r : ℕ) → b ≡ 0x76 → name ≡ nameAt f i s → r ≡ nameNumber name → eqb r 0 ≡ answerRight f i s
   unfolding answerRight
   answer-is name r h e q = rw (← is-start, ← first, eq-eqb b 0x76 h, ← e, q)
 
--- All answers
+-- Whether one of them fails, by the count n that the code read
 
-pub answers-start : (s : List ℕ) (n : ℕ) → answersRight narrow n 0 s ≡ answersRight narrow (n - 0) 0 s
-answers-start s n = rw sub-zero
-
-module _ (s : List ℕ) (n i : ℕ) (whole : answersRight narrow n 0 s ≡ answersRight narrow (n - i) i s) where
-  pub answers-end : n ≡ answers narrow s → n ≤ i → true ≡ answersRight narrow (answers narrow s) 0 s
+module _ (f : Form) (s : List ℕ) (n : ℕ) (p : n ≡ answers f s) (r : Bool) where
+  pub answers-by : r ≡ noneOf (λ i. not (answerRight f i s)) n → r ≡ answersRight f s
   unfolding answersRight
-  answers-end p h = let e : n - i ≡ 0 = omega arith in rw (← p, whole, e)
+  answers-by h = rw (← p) h
 
-  module _ (more : i < n) where
-    answers-turn : answersRight narrow n 0 s ≡ (answerRight narrow i s && answersRight narrow (n - (i + 1)) (i + 1) s)
-    unfolding answersRight
-    answers-turn = let e : n - i ≡ suc (n - (i + 1)) = omega arith in rw (whole, e)
-
-    pub answers-wrong : n ≡ answers narrow s → answerRight narrow i s ≡ false → false ≡ answersRight narrow (answers narrow s) 0 s
-    answers-wrong p h = rw (← p, answers-turn, h)
-
-    pub answers-more : answerRight narrow i s ≡ true → answersRight narrow n 0 s ≡ answersRight narrow (n - (i + 1)) (i + 1) s
-    answers-more h = answers-turn ∙ rw h
-
--- A name among the first k answers; r is what the comparison gave
-
-pub named-start : (s : List ℕ) (k : ℕ) (name : AnswerName) → namedFrom narrow k 0 name s ≡ namedFrom narrow (k - 0) 0 name s
-named-start s k name = rw sub-zero
-
-module _ (s : List ℕ) (k j : ℕ) (name : AnswerName) (whole : namedFrom narrow k 0 name s ≡ namedFrom narrow (k - j) j name s) where
-  pub named-end : k ≤ j → false ≡ namedFrom narrow k 0 name s
-  unfolding namedFrom
-  named-end h = let e : k - j ≡ 0 = omega arith in rw (whole, e)
-
-  module _ (more : j < k) where
-    named-turn : namedFrom narrow k 0 name s ≡ (sameAnswer (nameAt narrow j s) name || namedFrom narrow (k - (j + 1)) (j + 1) name s)
-    unfolding namedFrom
-    named-turn = let e : k - j ≡ suc (k - (j + 1)) = omega arith in rw (whole, e)
-
-    pub named-hit : sameAnswer (nameAt narrow j s) name ≡ true → true ≡ namedFrom narrow k 0 name s
-    named-hit h = rw (named-turn, h)
-
-    pub named-miss : sameAnswer (nameAt narrow j s) name ≡ false → namedFrom narrow k 0 name s ≡ namedFrom narrow (k - (j + 1)) (j + 1) name s
-    named-miss h = named-turn ∙ rw h
-
--- Repeats
-
-pub names-start : (s : List ℕ) (n : ℕ) → namesDiffer narrow n 0 s ≡ namesDiffer narrow (n - 0) 0 s
-names-start s n = rw sub-zero
-
-module _ (s : List ℕ) (n i : ℕ) (whole : namesDiffer narrow n 0 s ≡ namesDiffer narrow (n - i) i s) where
-  pub names-end : n ≡ answers narrow s → n ≤ i → true ≡ namesDiffer narrow (answers narrow s) 0 s
+  pub names-by : r ≡ noneOf (λ i. repeats f i s) n → r ≡ namesDiffer f s
   unfolding namesDiffer
-  names-end p h = let e : n - i ≡ 0 = omega arith in rw (← p, whole, e)
+  names-by h = rw (← p) h
 
-  module _ (more : i < n) (name : AnswerName) (is : name ≡ nameAt narrow i s) where
-    names-turn : namesDiffer narrow n 0 s ≡ (not (namedFrom narrow i 0 name s) && namesDiffer narrow (n - (i + 1)) (i + 1) s)
-    unfolding namesDiffer
-    names-turn = let e : n - i ≡ suc (n - (i + 1)) = omega arith in rw (whole, e, is)
+-- a name among the earlier ones; r is what the search of them gave
+module _ (f : Form) (s : List ℕ) (i : ℕ) (name : AnswerName) (is : name ≡ nameAt f i s) (r : Bool) (found : r ≡ anyOf (λ j. sameAnswer (nameAt f j s) name) i) where
+  repeats-by : r ≡ repeats f i s
+  unfolding repeats
+  repeats-by = rw (← is) found
 
-    pub names-repeat : n ≡ answers narrow s → namedFrom narrow i 0 name s ≡ true → false ≡ namesDiffer narrow (answers narrow s) 0 s
-    names-repeat p h = rw (← p, names-turn, h)
+  pub repeats-is : r ≡ true → repeats f i s ≡ true
+  repeats-is h = sym repeats-by ∙ h
 
-    pub names-more : namedFrom narrow i 0 name s ≡ false → namesDiffer narrow n 0 s ≡ namesDiffer narrow (n - (i + 1)) (i + 1) s
-    names-more h = names-turn ∙ rw h
+  pub repeats-not : r ≡ false → repeats f i s ≡ false
+  repeats-not h = sym repeats-by ∙ h
+
+pub wrong-by : (r : Bool) (t : Bool) → r ≡ t → not r ≡ true → not t ≡ true
+wrong-by r t e h = rw (← e) h
+
+pub right-by : (r : Bool) (t : Bool) → r ≡ t → not r ≡ false → not t ≡ false
+right-by r t e h = rw (← e) h

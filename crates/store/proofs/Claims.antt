@@ -1,4 +1,5 @@
 -- The claims of specs/Claims.antt, each from its theorem.
+use Rattle.store.specs.Layout.{narrow}
 use Rattle.store.specs.Claims.{StoreClaims}
 use Rattle.store.proofs.StoreLaws.{store-either}
 use Rattle.store.proofs.Theorems.{append-unbroken, append-then-number, append-then-lookup, others-number, others-part, stream-grows}
@@ -25,7 +26,7 @@ claims =
       empty = empty-unbroken;
       emptyCount = empty-answers;
       five = store-five;
-      fiveOnly = store-either;
+      fiveOnly = store-either narrow;
       lookupFive = λ name s. lookup-five s name;
       appendFive = append-five;
       streamFive = stream-five;

@@ -1,4 +1,5 @@
 -- Laws of the bench store. Callers start at StoreLaws and Theorems.
+pub mod FormLaws
 pub mod CheckLaws
 pub mod ReadLaws
 pub mod AppendLaws

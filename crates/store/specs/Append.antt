@@ -1,9 +1,9 @@
 -- "Appending puts the answer last", in place: the entries grow by one, so the stream moves up; bytes behind the new store stay.
-use Prim.Native.Nat.{ℕ, _+_, _*_}
+use Prim.Native.Nat.{ℕ, _+_}
 use mathlib.Core.Bool.{not}
 use mathlib.Core.List.{List, _++_}
-use lib.ListN.{length, getD}
-use lib.Dec.{eqb, ltb, leb}
+use lib.ListN.{length, getD, take}
+use lib.Dec.{eqb, leb}
 use Rattle.octets.specs.Order.{unless, orElse}
 use Rattle.octets.specs.Numbers.{done, bufferShort, alreadyHeld, overBound, notInTable, changedBy, writtenBy}
 use Rattle.octets.specs.BigEndian.{bytesOf}
@@ -11,9 +11,9 @@ use Rattle.octets.specs.Buffer.{partAt, front}
 use Rattle.octets.specs.declared.Written.{Written}
 use Rattle.catalog.specs.Name.{nameNumber}
 use Rattle.catalog.specs.declared.AnswerName.{AnswerName}
-use Rattle.store.specs.Layout.{Form, headerSize, entrySize, answers, streamLength, storeLength, streamOf}
+use Rattle.store.specs.Layout.{Form, headerSize, entrySize, entriesSize, answers, streamLength, storeLength, streamOf}
 use Rattle.store.specs.Check.{storeNumber}
-use Rattle.store.specs.Read.{position}
+use Rattle.store.specs.Read.{isHeld}
 
 -- the name of an answer to append: its second byte and the day given
 abbrev pub nameOf : List ℕ → ℕ → AnswerName
@@ -40,19 +40,20 @@ module _ (f : Form) where
   appendNumber answer day s =
       orElse (storeNumber f s)
       (orElse (answerNumber answer day)
-      (unless (not (ltb (position f (nameOf answer day) s) (answers f s))) alreadyHeld
+      (unless (not (isHeld f (nameOf answer day) s)) alreadyHeld
       (roomNumber (length answer) s)))
 
   -- the bytes of the store with the answer put last
   unfoldable pub withAnswer : List ℕ → ℕ → List ℕ → List ℕ
   withAnswer answer day s =
-      bytesOf (f .width) (answers f s + 1)
+      take (length (f .mark)) s
+      ++ (bytesOf (f .width) (answers f s + 1)
       ++ (bytesOf (f .width) (streamLength f s + length answer)
-      ++ (partAt (headerSize f) (entrySize f * answers f s) s
+      ++ (partAt (headerSize f) (entriesSize f (answers f s)) s
       ++ (bytesOf 4 day
       ++ (bytesOf (f .width) (streamLength f s)
       ++ (bytesOf (f .width) (length answer)
-      ++ (streamOf f s ++ answer))))))
+      ++ (streamOf f s ++ answer)))))))
 
   unfoldable pub appendResult : List ℕ → ℕ → List ℕ → Written
   appendResult answer day s =

@@ -1,14 +1,16 @@
 -- "5: store breaks its rules": an ordered list of checks, each over all entries before the next.
 use Prim.Native.Nat.{ℕ, zero, suc, _+_}
-use mathlib.Core.Bool.{Bool, true, false, not, _&&_, _||_}
+use mathlib.Core.Bool.{Bool, not, _&&_}
 use mathlib.Core.List.{List}
 use lib.ListN.{length, getD}
 use lib.Dec.{eqb, leb}
 use Rattle.octets.specs.Order.{unless}
+use Rattle.octets.specs.Search.{anyOf, noneOf}
 use Rattle.octets.specs.Numbers.{done, storeBroken}
 use Rattle.catalog.specs.Name.{sameAnswer, nameNumber}
 use Rattle.catalog.specs.declared.AnswerName.{AnswerName}
-use Rattle.store.specs.Layout.{Form, headerSize, answers, streamLength, entryOffset, entryLength, storeLength, answerStart, nameAt}
+use Rattle.store.specs.Layout.{Form, headerSize, answers, streamLength, entryOffset, entryLength}
+use Rattle.store.specs.Layout.{storeLength, answerStart, nameAt}
 
 module _ (f : Form) where
   -- the buffer holds its header, and what that says
@@ -19,40 +21,42 @@ module _ (f : Form) where
   unfoldable pub countsFit : List ℕ → Bool
   countsFit s = leb (answers f s) (f .answersMost) && leb (streamLength f s) (f .streamMost)
 
-  -- the i-th entry goes on where the stream is filled up to at: "offsets without gap", "length (.. at least 2)"
-  unfoldable pub placeRight : ℕ → ℕ → List ℕ → Bool
-  placeRight i at s =
-      eqb (entryOffset f i s) at && (leb 2 (entryLength f i s) && leb (at + entryLength f i s) (streamLength f s))
+  -- the bytes of the stream before the i-th answer: the lengths before it, added up
+  unfoldable pub filledTo : ℕ → List ℕ → ℕ
+  filledTo zero s = 0
+  filledTo (suc i) s = filledTo i s + entryLength f i s
 
-  -- k entries from the i-th on; "They fill exactly t bytes"
-  unfoldable pub placesRight : ℕ → ℕ → ℕ → List ℕ → Bool
-  placesRight zero i at s = eqb at (streamLength f s)
-  placesRight (suc k) i at s = placeRight i at s && placesRight k (i + 1) (at + entryLength f i s) s
+  -- "offsets without gap", "length (.. at least 2)"
+  unfoldable pub placeRight : ℕ → List ℕ → Bool
+  placeRight i s =
+      eqb (entryOffset f i s) (filledTo i s)
+      && (leb 2 (entryLength f i s) && leb (filledTo i s + entryLength f i s) (streamLength f s))
+
+  -- "They fill exactly t bytes"
+  unfoldable pub placesRight : List ℕ → Bool
+  placesRight s =
+      noneOf (λ i. not (placeRight i s)) (answers f s) && eqb (filledTo (answers f s) s) (streamLength f s)
 
   -- "each 76, listed TREP, data", "day (4, a multiple of 86,400, zero unless activities)"
   unfoldable pub answerRight : ℕ → List ℕ → Bool
   answerRight i s = eqb (getD s (answerStart f i s) 0) 0x76 && eqb (nameNumber (nameAt f i s)) 0
 
-  -- k entries from the i-th on
-  unfoldable pub answersRight : ℕ → ℕ → List ℕ → Bool
-  answersRight zero i s = true
-  answersRight (suc k) i s = answerRight i s && answersRight k (i + 1) s
+  unfoldable pub answersRight : List ℕ → Bool
+  answersRight s = noneOf (λ i. not (answerRight i s)) (answers f s)
 
-  -- one of k entries from the j-th on has that name
-  unfoldable pub namedFrom : ℕ → ℕ → AnswerName → List ℕ → Bool
-  namedFrom zero j name s = false
-  namedFrom (suc k) j name s = sameAnswer (nameAt f j s) name || namedFrom k (j + 1) name s
+  -- the i-th answer has the name of an earlier one
+  unfoldable pub repeats : ℕ → List ℕ → Bool
+  repeats i s = anyOf (λ j. sameAnswer (nameAt f j s) (nameAt f i s)) i
 
-  -- "No two share TREP and day": none of k entries from the i-th on repeats an earlier one
-  unfoldable pub namesDiffer : ℕ → ℕ → List ℕ → Bool
-  namesDiffer zero i s = true
-  namesDiffer (suc k) i s = not (namedFrom i 0 (nameAt f i s) s) && namesDiffer k (i + 1) s
+  -- "No two share TREP and day"
+  unfoldable pub namesDiffer : List ℕ → Bool
+  namesDiffer s = noneOf (λ i. repeats i s) (answers f s)
 
   unfoldable pub storeNumber : List ℕ → ℕ
   storeNumber s =
       unless (headerFits s) storeBroken
       (unless (countsFit s) storeBroken
-      (unless (placesRight (answers f s) 0 0 s) storeBroken
-      (unless (answersRight (answers f s) 0 s) storeBroken
-      (unless (namesDiffer (answers f s) 0 s) storeBroken
+      (unless (placesRight s) storeBroken
+      (unless (answersRight s) storeBroken
+      (unless (namesDiffer s) storeBroken
       done))))

@@ -11,7 +11,7 @@ use Rattle.octets.specs.Numbers.{done, bufferShort, storeBroken, notHeld, alrea
 use Rattle.catalog.specs.Table.{listed}
 use Rattle.catalog.specs.Name.{dayNamed, nameNumber}
 use Rattle.catalog.specs.declared.AnswerName.{AnswerName}
-use Rattle.store.specs.Layout.{narrow, answers, streamLength, storeLength, answerAt, nameAt}
+use Rattle.store.specs.Layout.{Form, narrow, entrySize, answers, streamLength, storeLength, answerAt, nameAt}
 use Rattle.store.specs.Check.{headerFits, countsFit, placesRight, answersRight, namesDiffer, storeNumber}
 use Rattle.store.specs.Read.{lookupNumber, lookupPart, streamPlace, streamPart, heldAnswer}
 use Rattle.store.specs.Append.{nameOf, answerNumber, appendNumber, appendOut}
@@ -65,12 +65,12 @@ pub record ReadsBack (gs : List ToAppend) (r : List ℕ) : Type 0 where
 -- Numbers
 
 -- "5: store breaks its rules": one of the five checks of Check.antt fails
-pub data Broken (s : List ℕ) : Type 0 where
-  header : headerFits narrow s ≡ false → Broken s
-  counts : countsFit narrow s ≡ false → Broken s
-  places : placesRight narrow (answers narrow s) 0 0 s ≡ false → Broken s
-  begins : answersRight narrow (answers narrow s) 0 s ≡ false → Broken s
-  names : namesDiffer narrow (answers narrow s) 0 s ≡ false → Broken s
+pub data Broken (f : Form) (s : List ℕ) : Type 0 where
+  header : headerFits f s ≡ false → Broken f s
+  counts : countsFit f s ≡ false → Broken f s
+  places : placesRight f s ≡ false → Broken f s
+  begins : answersRight f s ≡ false → Broken f s
+  names : namesDiffer f s ≡ false → Broken f s
 
 -- "12: answer .. not in the table below, or its day no multiple of 86,400, or a day other than zero outside activities,
 -- or an answer to append that does not begin 76 and a listed TREP"
@@ -81,14 +81,14 @@ pub data Unlisted (answer : List ℕ) (day : ℕ) : Type 0 where
   named : dayNamed (nameOf answer day) ≡ false → Unlisted answer day
 
 -- some held answer has that name
-pub record HeldAs (name : AnswerName) (s : List ℕ) : Type 0 where
+pub record HeldAs (f : Form) (name : AnswerName) (s : List ℕ) : Type 0 where
   pub at : ℕ
-  pub below : at < answers narrow s
-  pub named : nameAt narrow at s ≡ name
+  pub below : at < answers f s
+  pub named : nameAt f at s ≡ name
 
 -- none has
-abbrev pub Missing : AnswerName → List ℕ → Type 0
-Missing name s = (i : ℕ) → i < answers narrow s → nameAt narrow i s ≡ name → ⊥
+abbrev pub Missing : Form → AnswerName → List ℕ → Type 0
+Missing f name s = (i : ℕ) → i < answers f s → nameAt f i s ≡ name → ⊥
 
 -- "Appending: 5, 12, 7, 8, 4": refused by neither 5 nor 12
 pub record Judged (answer : List ℕ) (day : ℕ) (s : List ℕ) : Type 0 where
@@ -98,7 +98,7 @@ pub record Judged (answer : List ℕ) (day : ℕ) (s : List ℕ) : Type 0 where
 -- nor by 7
 pub record Fresh (answer : List ℕ) (day : ℕ) (s : List ℕ) : Type 0 where
   pub judged : Judged answer day s
-  pub missing : Missing (nameOf answer day) s
+  pub missing : Missing narrow (nameOf answer day) s
 
 -- nor by 8
 pub record Bounded (answer : List ℕ) (day : ℕ) (s : List ℕ) : Type 0 where
@@ -124,22 +124,22 @@ pub record StoreClaims : Type 0 where
   pub empty : (rest : List ℕ) → storeNumber narrow (0 ∷ 0 ∷ 0 ∷ 0 ∷ rest) ≡ done
   pub emptyCount : (rest : List ℕ) → answers narrow (0 ∷ 0 ∷ 0 ∷ 0 ∷ rest) ≡ 0
   -- "5: store breaks its rules": the check, a lookup, an append, the stream and the i-th answer
-  pub five : (s : List ℕ) → (storeNumber narrow s ≡ storeBroken) ↔ Broken s
+  pub five : (s : List ℕ) → (storeNumber narrow s ≡ storeBroken) ↔ Broken narrow s
   pub fiveOnly : (s : List ℕ) → (storeNumber narrow s ≡ done) ⊎ (storeNumber narrow s ≡ storeBroken)
-  pub lookupFive : (name : AnswerName) (s : List ℕ) → (lookupNumber narrow name s ≡ storeBroken) ↔ Broken s
+  pub lookupFive : (name : AnswerName) (s : List ℕ) → (lookupNumber narrow name s ≡ storeBroken) ↔ Broken narrow s
   pub appendFive : (answer : List ℕ) (day : ℕ) (s : List ℕ)
-      → (appendNumber narrow answer day s ≡ storeBroken) ↔ Broken s
-  pub streamFive : (s : List ℕ) → (streamPlace narrow s .number ≡ storeBroken) ↔ Broken s
-  pub heldFive : (i : ℕ) (s : List ℕ) → (heldAnswer narrow i s .number ≡ storeBroken) ↔ Broken s
+      → (appendNumber narrow answer day s ≡ storeBroken) ↔ Broken narrow s
+  pub streamFive : (s : List ℕ) → (streamPlace narrow s .number ≡ storeBroken) ↔ Broken narrow s
+  pub heldFive : (i : ℕ) (s : List ℕ) → (heldAnswer narrow i s .number ≡ storeBroken) ↔ Broken narrow s
   -- "6: answer not held"
   pub six : (name : AnswerName) (s : List ℕ)
-      → (lookupNumber narrow name s ≡ notHeld) ↔ ((storeNumber narrow s ≡ done) × Missing name s)
+      → (lookupNumber narrow name s ≡ notHeld) ↔ ((storeNumber narrow s ≡ done) × Missing narrow name s)
   -- "Appending: 5, 12, 7, 8, 4": each of them where those before it do not refuse
   pub twelve : (answer : List ℕ) (day : ℕ) (s : List ℕ)
       → (appendNumber narrow answer day s ≡ notInTable) ↔ ((storeNumber narrow s ≡ done) × Unlisted answer day)
   -- "7: answer already held"
   pub seven : (answer : List ℕ) (day : ℕ) (s : List ℕ)
-      → (appendNumber narrow answer day s ≡ alreadyHeld) ↔ (Judged answer day s × HeldAs (nameOf answer day) s)
+      → (appendNumber narrow answer day s ≡ alreadyHeld) ↔ (Judged answer day s × HeldAs narrow (nameOf answer day) s)
   -- "8: store would pass 64 answers or 60,000 stream bytes"
   pub eight : (answer : List ℕ) (day : ℕ) (s : List ℕ)
       → (appendNumber narrow answer day s ≡ overBound)
@@ -147,16 +147,16 @@ pub record StoreClaims : Type 0 where
   -- "4: .. store buffer too short": for the store, an entry of eight bytes and the answer
   pub four : (answer : List ℕ) (day : ℕ) (s : List ℕ)
       → (appendNumber narrow answer day s ≡ bufferShort)
-      ↔ (Bounded answer day s × (length s < storeLength narrow s + 8 + length answer))
+      ↔ (Bounded answer day s × (length s < storeLength narrow s + entrySize narrow + length answer))
   -- an append that none of these refuses is taken
   pub taken : (answer : List ℕ) (day : ℕ) (s : List ℕ)
       → (appendNumber narrow answer day s ≡ done)
-      ↔ (Bounded answer day s × (storeLength narrow s + 8 + length answer ≤ length s))
+      ↔ (Bounded answer day s × (storeLength narrow s + entrySize narrow + length answer ≤ length s))
   -- "59,998 data bytes .. fill the stream": under any name that 12 allows, in an empty store whose buffer has room
   pub fills : (name : AnswerName) (d s : List ℕ) → nameNumber name ≡ done → name .day < 0x100000000
-      → length d ≡ 59998 → storeNumber narrow s ≡ done → answers narrow s ≡ 0 → 4 + 8 + 60000 ≤ length s
+      → length d ≡ 59998 → storeNumber narrow s ≡ done → answers narrow s ≡ 0 → storeLength narrow s + entrySize narrow + 60000 ≤ length s
       → Fills (0x76 ∷ name .trep ∷ d) (name .day) s
   -- "one byte more is 8": in any store that does not hold that name, whatever room it has
   pub oneMore : (name : AnswerName) (d s : List ℕ) → nameNumber name ≡ done
-      → length d ≡ 59999 → storeNumber narrow s ≡ done → Missing name s
+      → length d ≡ 59999 → storeNumber narrow s ≡ done → Missing narrow name s
       → appendNumber narrow (0x76 ∷ name .trep ∷ d) (name .day) s ≡ overBound

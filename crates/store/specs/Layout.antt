@@ -1,39 +1,46 @@
--- The layout of a bench store, over the width of a field and the bounds beside it.
+-- The layout of a bench store, over its form: the width of a field, the bytes in front of the count, and the bounds.
 use Prim.Native.Nat.{ℕ, _+_, _*_}
-use mathlib.Core.List.{List}
-use lib.ListN.{getD}
+use mathlib.Core.List.{List, []}
+use lib.ListN.{length, getD}
 use Rattle.octets.specs.BigEndian.{numberAt}
 use Rattle.octets.specs.Buffer.{partAt}
 use Rattle.catalog.specs.declared.AnswerName.{AnswerName}
 
--- the width of a field, the most answers and the most stream bytes
 pub record Form : Type 0 where
+  -- the bytes in front of the count
+  pub mark : List ℕ
+  -- the width of count, stream length, offset and length
   pub width : ℕ
+  -- the most answers, the most bytes of one answer and of the stream
   pub answersMost : ℕ
+  pub answerMost : ℕ
   pub streamMost : ℕ
 
--- "Two bytes count of answers n (0 to 64), two bytes stream length t (0 to 60,000)"
+-- "Two bytes count of answers n (0 to 64), two bytes stream length t (0 to 60,000)"; one answer is bounded by the stream
 abbrev pub narrow : Form
-narrow = record { width = 2; answersMost = 64; streamMost = 60000 }
+narrow = record { mark = []; width = 2; answersMost = 64; answerMost = 60000; streamMost = 60000 }
 
 module _ (f : Form) where
-  -- count of answers and stream length
-  abbrev pub headerSize : ℕ
-  headerSize = f .width + f .width
+  -- count of answers and stream length, behind the mark
+  unfoldable pub headerSize : ℕ
+  headerSize = length (f .mark) + (f .width + f .width)
 
   -- "n entries of eight bytes: day (4 ..), offset (2), length (2 ..)"
-  abbrev pub entrySize : ℕ
+  unfoldable pub entrySize : ℕ
   entrySize = 4 + (f .width + f .width)
 
-  -- the i-th entry, from 0
+  -- all entries before the i-th, from 0
+  unfoldable pub entriesSize : ℕ → ℕ
+  entriesSize i = entrySize * i
+
   abbrev pub entryStart : ℕ → ℕ
-  entryStart i = headerSize + entrySize * i
+  entryStart i = headerSize + entriesSize i
 
   abbrev pub answers : List ℕ → ℕ
-  answers s = numberAt (f .width) 0 s
+  answers s = numberAt (f .width) (length (f .mark)) s
 
   abbrev pub streamLength : List ℕ → ℕ
-  streamLength s = numberAt (f .width) (f .width) s
+  streamLength s = numberAt (f .width) (length (f .mark) + f .width) s
 
   abbrev pub entryDay : ℕ → List ℕ → ℕ
   entryDay i s = numberAt 4 (entryStart i) s

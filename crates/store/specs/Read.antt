@@ -1,9 +1,10 @@
 -- Lookup, the stream, and the answers one by one.
-use Prim.Native.Nat.{ℕ, zero, suc, _+_}
-use mathlib.Core.Bool.{cond}
+use Prim.Native.Nat.{ℕ}
+use mathlib.Core.Bool.{Bool}
 use mathlib.Core.List.{List}
 use lib.Dec.{ltb}
 use Rattle.octets.specs.Order.{unless, orElse}
+use Rattle.octets.specs.Search.{firstOf, anyOf}
 use Rattle.octets.specs.Numbers.{done, notHeld, changedBy, placeBy}
 use Rattle.octets.specs.Buffer.{partAt}
 use Rattle.octets.specs.declared.Place.{Place}
@@ -15,21 +16,17 @@ use Rattle.store.specs.Layout.{Form, answers, streamStart, streamLength,
 use Rattle.store.specs.Check.{storeNumber}
 
 module _ (f : Form) where
-  -- the first of k entries from the i-th on with that name; past them all where there is none
-  unfoldable pub positionFrom : ℕ → ℕ → AnswerName → List ℕ → ℕ
-  positionFrom zero i name s = i
-  positionFrom (suc k) i name s = cond (sameAnswer (nameAt f i s) name) i (positionFrom k (i + 1) name s)
-
+  -- the answer with that name, from 0; the count of answers where none has it
   abbrev pub position : AnswerName → List ℕ → ℕ
-  position name s = positionFrom (answers f s) 0 name s
+  position name s = firstOf (λ i. sameAnswer (nameAt f i s) name) (answers f s)
 
-  -- 6 where no answer has that name
-  abbrev pub heldNumberOf : AnswerName → List ℕ → ℕ
-  heldNumberOf name s = unless (ltb (position name s) (answers f s)) notHeld done
+  -- one has it
+  abbrev pub isHeld : AnswerName → List ℕ → Bool
+  isHeld name s = anyOf (λ i. sameAnswer (nameAt f i s) name) (answers f s)
 
   -- "Lookup: 5, 6 (unlisted names too)"
   unfoldable pub lookupNumber : AnswerName → List ℕ → ℕ
-  lookupNumber name s = orElse (storeNumber f s) (heldNumberOf name s)
+  lookupNumber name s = orElse (storeNumber f s) (unless (isHeld name s) notHeld done)
 
   -- "A lookup hands back the answer as part of the buffer, or 6"
   unfoldable pub lookupPlace : AnswerName → List ℕ → Place

@@ -16,7 +16,7 @@ ghost use Prim.Native.Nat.{_+_, _≤_, _<_};
 ghost use lib.ListN.{length};
 ghost use Rattle.octets.specs.BigEndian.{bytesOf};
 ghost use Rattle.octets.specs.Buffer.{front, put};
-ghost use Rattle.store.specs.Layout.{narrow, answers, streamLength, storeLength};
+ghost use Rattle.store.specs.Layout.{narrow, headerSize, entrySize, answers, streamLength, storeLength};
 ghost use Rattle.store.specs.Append.{answerNumber, roomNumber, appendNumber, withAnswer, appendResult, appendOut};
 
 fn answer_number(answer: &[u8], day: u32) -> u8
@@ -73,7 +73,7 @@ fn append_number(store: &[u8], answer: &[u8], day: u32) -> u8
 }
 
 fn write_header(store: &mut [u8], count: u32, stream: u32)
-    requires { ⌜ 4 ≤ length (now store) ⌝ }
+    requires { ⌜ headerSize narrow ≤ length (now store) ⌝ }
     ensures { λ _. ⌜ now (store .exit) ≡ front (bytesOf 2 count ++ bytesOf 2 stream) (now (store .entry)) ⌝ }
 {
     octets::big_endian::write_number(store, 0, FIELD, count);
@@ -81,7 +81,7 @@ fn write_header(store: &mut [u8], count: u32, stream: u32)
 }
 
 fn write_entry(store: &mut [u8], at: usize, day: u32, offset: u32, len: u32)
-    requires { ⌜ at + 8 ≤ length (now store) ⌝ }
+    requires { ⌜ at + entrySize narrow ≤ length (now store) ⌝ }
     ensures { λ _. ⌜ now (store .exit) ≡ put at (bytesOf 4 day ++ (bytesOf 2 offset ++ bytesOf 2 len)) (now (store .entry)) ⌝ }
 {
     octets::big_endian::write_number(store, at, DAY, day);
@@ -91,9 +91,9 @@ fn write_entry(store: &mut [u8], at: usize, day: u32, offset: u32, len: u32)
 
 // The stream moves up by one entry, once; then header, the new entry and the answer behind the stream are written.
 fn put_last(store: &mut [u8], answer: &[u8], day: u32)
-    requires { ⌜ answers narrow (now store) + 1 ≤ 64 ⌝ }
-    requires { ⌜ streamLength narrow (now store) + length (now answer) ≤ 60000 ⌝ }
-    requires { ⌜ storeLength narrow (now store) + 8 + length (now answer) ≤ length (now store) ⌝ }
+    requires { ⌜ answers narrow (now store) + 1 ≤ narrow .answersMost ⌝ }
+    requires { ⌜ streamLength narrow (now store) + length (now answer) ≤ narrow .streamMost ⌝ }
+    requires { ⌜ storeLength narrow (now store) + entrySize narrow + length (now answer) ≤ length (now store) ⌝ }
     ensures { λ _. ⌜ now (store .exit) ≡ front (withAnswer narrow (now (answer .entry)) day (now (store .entry))) (now (store .entry)) ⌝ }
 {
     let n = crate::layout::answers(store);

@@ -6,10 +6,12 @@ use crate::layout::HEADER;
 use catalog::AnswerName;
 use octets::numbers::STORE_BROKEN;
 ghost use mathlib.Core.Path.{_≡_};
-ghost use Prim.Native.Nat.{_+_, _*_, _≤_};
+ghost use Prim.Native.Nat.{_+_, _≤_};
 ghost use lib.ListN.{length};
-ghost use Rattle.store.specs.Layout.{narrow, answers, streamStart};
-ghost use Rattle.store.specs.Check.{headerFits, countsFit, placesRight, answerRight, answersRight, namedFrom, namesDiffer, storeNumber};
+ghost use Rattle.octets.specs.Search.{anyOf};
+ghost use Rattle.catalog.specs.Name.{sameAnswer};
+ghost use Rattle.store.specs.Layout.{narrow, entrySize, entryStart, streamStart, nameAt};
+ghost use Rattle.store.specs.Check.{headerFits, countsFit, placesRight, answerRight, answersRight, namesDiffer, storeNumber};
 
 // Whether the buffer holds its header, and what that says.
 fn header_fits(store: &[u8]) -> bool
@@ -33,7 +35,7 @@ fn counts_fit(store: &[u8]) -> bool
 // Whether the stream is filled without gap by the places that the entries name.
 fn places_right(store: &[u8]) -> bool
     requires { ⌜ streamStart narrow (now store) ≤ length (now store) ⌝ }
-    ensures { λ r. ⌜ r ≡ placesRight narrow (answers narrow (now (store .entry))) 0 0 (now (store .entry)) ⌝ }
+    ensures { λ r. ⌜ r ≡ placesRight narrow (now (store .entry)) ⌝ }
 {
     let n = crate::layout::answers(store);
     let t = crate::layout::stream_length(store);
@@ -57,7 +59,7 @@ fn places_right(store: &[u8]) -> bool
 }
 
 fn answer_right(store: &[u8], i: usize) -> bool
-    requires { ⌜ 12 + 8 * i ≤ length (now store) ⌝ }
+    requires { ⌜ entryStart narrow i + entrySize narrow ≤ length (now store) ⌝ }
     ensures { λ r. ⌜ r ≡ answerRight narrow i (now (store .entry)) ⌝ }
 {
     if octets::big_endian::byte_at(store, crate::layout::answer_start(store, i)) != 0x76 {
@@ -69,7 +71,7 @@ fn answer_right(store: &[u8], i: usize) -> bool
 // Whether each answer begins 76 and has a name that number 12 allows.
 fn answers_right(store: &[u8]) -> bool
     requires { ⌜ streamStart narrow (now store) ≤ length (now store) ⌝ }
-    ensures { λ r. ⌜ r ≡ answersRight narrow (answers narrow (now (store .entry))) 0 (now (store .entry)) ⌝ }
+    ensures { λ r. ⌜ r ≡ answersRight narrow (now (store .entry)) ⌝ }
 {
     let n = crate::layout::answers(store);
     let mut i = 0;
@@ -84,8 +86,8 @@ fn answers_right(store: &[u8]) -> bool
 
 // Whether one of the first `count` answers has this name.
 fn named_before(store: &[u8], count: usize, name: AnswerName) -> bool
-    requires { ⌜ 4 + 8 * count ≤ length (now store) ⌝ }
-    ensures { λ r. ⌜ r ≡ namedFrom narrow count 0 name (now (store .entry)) ⌝ }
+    requires { ⌜ entryStart narrow count ≤ length (now store) ⌝ }
+    ensures { λ r. ⌜ r ≡ anyOf (λ j. sameAnswer (nameAt narrow j (now (store .entry))) name) count ⌝ }
 {
     let mut j = 0;
     while j < count {
@@ -100,7 +102,7 @@ fn named_before(store: &[u8], count: usize, name: AnswerName) -> bool
 // Whether no answer has the name of an earlier one.
 fn names_differ(store: &[u8]) -> bool
     requires { ⌜ streamStart narrow (now store) ≤ length (now store) ⌝ }
-    ensures { λ r. ⌜ r ≡ namesDiffer narrow (answers narrow (now (store .entry))) 0 (now (store .entry)) ⌝ }
+    ensures { λ r. ⌜ r ≡ namesDiffer narrow (now (store .entry)) ⌝ }
 {
     let n = crate::layout::answers(store);
     let mut i = 0;

@@ -1,11 +1,11 @@
 // The fields of a store, and the names of its answers. Every number read is bounded, so that no sum of a few of them wraps.
 use catalog::AnswerName;
 ghost use mathlib.Core.Path.{_≡_};
-ghost use Prim.Native.Nat.{_+_, _*_, _<_, _≤_};
+ghost use Prim.Native.Nat.{_+_, _<_, _≤_};
 ghost use lib.ListN.{length};
 ghost use Rattle.octets.specs.BigEndian.{numberAt};
 ghost use Rattle.catalog.specs.Name.{sameAnswer};
-ghost use Rattle.store.specs.Layout.{narrow, answers, streamLength, streamStart, entryDay, entryOffset, entryLength, answerStart, nameAt};
+ghost use Rattle.store.specs.Layout.{narrow, entrySize, entryStart, answers, streamLength, streamStart, entryDay, entryOffset, entryLength, answerStart, nameAt};
 
 // The width of count, stream length, offset and length.
 pub(crate) const FIELD: usize = 2;
@@ -46,7 +46,7 @@ pub(crate) fn stream_start(store: &[u8]) -> usize
 
 // The readers of an entry ask that it lies in the buffer, and so test nothing.
 fn entry_day(store: &[u8], i: usize) -> u32
-    requires { ⌜ 12 + 8 * i ≤ length (now store) ⌝ }
+    requires { ⌜ entryStart narrow i + entrySize narrow ≤ length (now store) ⌝ }
     ensures { λ r. ⌜ r ≡ entryDay narrow i (now (store .entry)) ⌝ }
 {
     let at = HEADER + ENTRY * i;
@@ -54,7 +54,7 @@ fn entry_day(store: &[u8], i: usize) -> u32
 }
 
 pub(crate) fn entry_offset(store: &[u8], i: usize) -> usize
-    requires { ⌜ 12 + 8 * i ≤ length (now store) ⌝ }
+    requires { ⌜ entryStart narrow i + entrySize narrow ≤ length (now store) ⌝ }
     ensures { λ r. ⌜ (r ≡ entryOffset narrow i (now (store .entry))) × (r < 65536) ⌝ }
 {
     let at = HEADER + ENTRY * i + DAY;
@@ -62,7 +62,7 @@ pub(crate) fn entry_offset(store: &[u8], i: usize) -> usize
 }
 
 pub(crate) fn entry_length(store: &[u8], i: usize) -> usize
-    requires { ⌜ 12 + 8 * i ≤ length (now store) ⌝ }
+    requires { ⌜ entryStart narrow i + entrySize narrow ≤ length (now store) ⌝ }
     ensures { λ r. ⌜ (r ≡ entryLength narrow i (now (store .entry))) × (r < 65536) ⌝ }
 {
     let at = HEADER + ENTRY * i + DAY + FIELD;
@@ -71,7 +71,7 @@ pub(crate) fn entry_length(store: &[u8], i: usize) -> usize
 
 // Where answer `i` begins in the buffer.
 pub(crate) fn answer_start(store: &[u8], i: usize) -> usize
-    requires { ⌜ 12 + 8 * i ≤ length (now store) ⌝ }
+    requires { ⌜ entryStart narrow i + entrySize narrow ≤ length (now store) ⌝ }
     ensures { λ r. ⌜ (r ≡ answerStart narrow i (now (store .entry))) × (r < 34359803908) ⌝ }
 {
     stream_start(store) + entry_offset(store, i)
@@ -79,7 +79,7 @@ pub(crate) fn answer_start(store: &[u8], i: usize) -> usize
 
 // The TREP stands second in the answer, the day in its entry.
 pub(crate) fn name_at(store: &[u8], i: usize) -> AnswerName
-    requires { ⌜ 12 + 8 * i ≤ length (now store) ⌝ }
+    requires { ⌜ entryStart narrow i + entrySize narrow ≤ length (now store) ⌝ }
     ensures { λ r. ⌜ r ≡ nameAt narrow i (now (store .entry)) ⌝ }
 {
     AnswerName {
@@ -90,7 +90,7 @@ pub(crate) fn name_at(store: &[u8], i: usize) -> AnswerName
 
 // Whether answer `i` has this name. Most names differ in the day already, and it stands in the entry: the answer is read only behind it.
 pub(crate) fn has_name(store: &[u8], i: usize, name: AnswerName) -> bool
-    requires { ⌜ 12 + 8 * i ≤ length (now store) ⌝ }
+    requires { ⌜ entryStart narrow i + entrySize narrow ≤ length (now store) ⌝ }
     ensures { λ r. ⌜ r ≡ sameAnswer (nameAt narrow i (now (store .entry))) name ⌝ }
 {
     if entry_day(store, i) != name.day {

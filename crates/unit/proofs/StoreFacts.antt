@@ -23,13 +23,13 @@ module _ (s : List ℕ) where
   module _ (name : AnswerName) where
     located : lookupNumber narrow name s ≡ 0 → InStore (lookupPlace narrow name s .start) (lookupPlace narrow name s .len)
     located z =
-        let f = found name s z in
+        let f = found narrow name s z in
         let i : ℕ = position narrow name s in
         rw (f .place)
         (record {
-          two = held s (f .whole) i (f .below) .long;
-          most = omega (arith, answer-length s (f .whole) i (f .below), answer-most s (f .whole) i (f .below));
-          inside = answer-within s (f .whole) i (f .below);
+          two = held narrow s (f .whole) i (f .below) .long;
+          most = omega (arith, answer-length narrow s (f .whole) i (f .below), answer-most narrow s (f .whole) i (f .below));
+          inside = answer-within narrow s (f .whole) i (f .below);
         })
 
     -- an answer found in an unbroken store

@@ -1,17 +1,17 @@
--- What is left of the column decides.
+-- The search of the column.
 use Prim.Native.Nat.{_-_, _≤_}
 use mathlib.Core.Path.{_≡_}
-use lib.ListN.{drop}
-use Rattle.catalog.specs.Table.{rows, inColumn}
-use Rattle.catalog.proofs.TableLaws.{column-hit, column-miss, column-end, absent-unknown}
+use Rattle.octets.specs.Search.{firstFrom, firstOf}
+use Rattle.octets.proofs.SearchLaws.{search-start, search-miss, any-hit, any-end}
+use Rattle.catalog.proofs.TableLaws.{stands, known-by, stands-here, stands-not, absent-unknown}
 use borrow.Author.Needs.{needs}
 use Rattle.catalog.proofs.known_to.Statement.{statement}
 use Rattle.catalog.proofs.known_to.Tie as tie
 
-ruleset all = (needs, column-hit, column-miss, column-end, absent-unknown)
+ruleset all = (needs, search-start, search-miss, any-hit, any-end, known-by, stands-here, stands-not, absent-unknown)
 
 abbrev Inv-loop : tie.InvT-loop
-Inv-loop kind byte row₀ row = (row ≤ 6) × (inColumn kind byte rows ≡ inColumn kind byte (drop row rows))
+Inv-loop kind byte row₀ row = (row ≤ 6) × (firstOf (stands kind byte) 6 ≡ firstFrom (stands kind byte) (6 - row) row)
 
 abbrev μ-loop : tie.MeasureT-loop
 μ-loop kind byte row₀ row = 6 - row

@@ -1,18 +1,20 @@
--- What is left decides.
+-- The search for an answer that breaks its rule.
 use Prim.Native.Nat.{_-_, _≤_}
+use mathlib.Core.Bool.{not}
 use mathlib.Core.Path.{_≡_}
-use Rattle.octets.proofs.Tests.{flag-nt, flag-nf}
+use Rattle.octets.specs.Search.{firstFrom, firstOf}
+use Rattle.octets.proofs.SearchLaws.{search-start, search-miss, none-hit, none-end}
 use Rattle.store.specs.Layout.{narrow}
-use Rattle.store.specs.Check.{answersRight}
-use Rattle.store.proofs.CheckLaws.{answers-start, answers-wrong, answers-more, answers-end}
+use Rattle.store.specs.Check.{answerRight}
+use Rattle.store.proofs.CheckLaws.{entry-in, answers-by, wrong-by, right-by}
 use borrow.Author.Needs.{needs}
 use Rattle.store.proofs.check.answers_right.Statement.{statement}
 use Rattle.store.proofs.check.answers_right.Tie as tie
 
-ruleset all = (needs, flag-nt, flag-nf, answers-start, answers-wrong, answers-more, answers-end)
+ruleset all = (needs, entry-in, search-start, search-miss, none-hit, none-end, answers-by, wrong-by, right-by)
 
 abbrev Inv-loop : tie.InvT-loop
-Inv-loop store n i₀ i = (i ≤ n) × (answersRight narrow n 0 store ≡ answersRight narrow (n - i) i store)
+Inv-loop store n i₀ i = (i ≤ n) × (firstOf (λ j. not (answerRight narrow j store)) n ≡ firstFrom (λ j. not (answerRight narrow j store)) (n - i) i)
 
 abbrev μ-loop : tie.MeasureT-loop
 μ-loop store n i₀ i = n - i

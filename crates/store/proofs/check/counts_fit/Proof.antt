@@ -1,10 +1,9 @@
 -- Both bounds.
 use Rattle.store.proofs.CheckLaws.{counts-many, counts-is}
+use Rattle.store.specs.Layout.{narrow}
 use borrow.Author.Needs.{needs}
 use Rattle.store.proofs.check.counts_fit.Statement.{statement}
 use Rattle.store.proofs.check.counts_fit.Tie as tie
 
-ruleset all = (needs, counts-many, counts-is)
-
 pub counts-fit-spec : {M : Type 1} → statement M
-counts-fit-spec = tie.close (tie.spec (λ c κs. search all) (λ c. search all) (λ c κs. search all) (λ c. search all))
+counts-fit-spec = tie.close (tie.spec (λ c κs. search (needs, counts-many narrow, counts-is narrow)) (λ c. search (needs, counts-many narrow, counts-is narrow)) (λ c κs. search (needs, counts-many narrow, counts-is narrow)) (λ c. search (needs, counts-many narrow, counts-is narrow)))

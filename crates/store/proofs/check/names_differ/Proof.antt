@@ -1,18 +1,19 @@
--- What is left decides.
+-- The search for a name that repeats an earlier one.
 use Prim.Native.Nat.{_-_, _≤_}
 use mathlib.Core.Path.{_≡_}
-use Rattle.octets.proofs.Tests.{flag-t, flag-f}
+use Rattle.octets.specs.Search.{firstFrom, firstOf}
+use Rattle.octets.proofs.SearchLaws.{search-start, search-miss, none-hit, none-end}
 use Rattle.store.specs.Layout.{narrow}
-use Rattle.store.specs.Check.{namesDiffer}
-use Rattle.store.proofs.CheckLaws.{names-start, names-repeat, names-more, names-end}
+use Rattle.store.specs.Check.{repeats}
+use Rattle.store.proofs.CheckLaws.{entry-in, start-in, names-by, repeats-is, repeats-not}
 use borrow.Author.Needs.{needs}
 use Rattle.store.proofs.check.names_differ.Statement.{statement}
 use Rattle.store.proofs.check.names_differ.Tie as tie
 
-ruleset all = (needs, flag-t, flag-f, names-start, names-repeat, names-more, names-end)
+ruleset all = (needs, entry-in, start-in, search-start, search-miss, none-hit, none-end, names-by, repeats-is, repeats-not)
 
 abbrev Inv-loop : tie.InvT-loop
-Inv-loop store n i₀ i = (i ≤ n) × (namesDiffer narrow n 0 store ≡ namesDiffer narrow (n - i) i store)
+Inv-loop store n i₀ i = (i ≤ n) × (firstOf (λ j. repeats narrow j store) n ≡ firstFrom (λ j. repeats narrow j store) (n - i) i)
 
 abbrev μ-loop : tie.MeasureT-loop
 μ-loop store n i₀ i = n - i

@@ -1,0 +1,58 @@
+-- Sizes over the form, as sums: a product of the entry's size and a count is read by these laws alone.
+use Prim.Native.Nat.{ℕ, suc, _+_, _*_, _^_, _<_, _≤_}
+use mathlib.Core.Bool.{true}
+use mathlib.Core.Path.{_≡_, refl, sym, ap, _∙_}
+use native.Mathlib.Omega.{arith}
+use native.Mathlib.Nat.{mul-suc, mul-zero, mul-le-mul-left}
+use native.Mathlib.Numerals.{add-one}
+use lib.ListN.{length}
+use Rattle.octets.specs.BigEndian.{fieldWidth}
+use Rattle.store.specs.Layout.{Form, narrow, headerSize, entrySize, entriesSize, entryStart}
+
+-- what a law needs of a form: fields of two or four bytes that the bounds fit, and answers bounded by the stream
+pub record Sized (f : Form) : Type 0 where
+  pub field : fieldWidth (f .width) ≡ true
+  pub counts : f .answersMost < 256 ^ f .width
+  pub streams : f .streamMost < 256 ^ f .width
+  pub bounded : f .streamMost ≤ f .answerMost
+
+pub narrow-sized : Sized narrow
+narrow-sized = record { field = refl; counts = omega arith; streams = omega arith; bounded = omega arith }
+
+module _ (f : Form) where
+  pub header-size : headerSize f ≡ length (f .mark) + (f .width + f .width)
+  unfolding headerSize
+  header-size = refl
+
+  pub entry-size : entrySize f ≡ 4 + (f .width + f .width)
+  unfolding entrySize
+  entry-size = refl
+
+  pub entries-none : entriesSize f 0 ≡ 0
+  unfolding entriesSize
+  entries-none = mul-zero (entrySize f)
+
+  pub entries-next : (i : ℕ) → entriesSize f (i + 1) ≡ entriesSize f i + entrySize f
+  unfolding entriesSize
+  entries-next i = ap (λ (k : ℕ). entrySize f * k) (add-one i) ∙ mul-suc (entrySize f) i
+
+  pub entries-within : (i n : ℕ) → i ≤ n → entriesSize f i ≤ entriesSize f n
+  unfolding entriesSize
+  entries-within i n h = mul-le-mul-left (entrySize f) h
+
+  -- an entry below n lies before the n-th
+  pub entry-below : (i n : ℕ) → i < n → entryStart f i + entrySize f ≤ entryStart f n
+  entry-below i n h = omega (arith, entries-next i, entries-within (i + 1) n (omega arith))
+
+-- the narrow form, in numbers
+pub narrow-start : (i : ℕ) → entryStart narrow i ≡ 4 + 8 * i
+unfolding headerSize entrySize entriesSize
+narrow-start i = refl
+
+pub narrow-entry : entrySize narrow ≡ 8
+unfolding entrySize
+narrow-entry = refl
+
+pub narrow-header : headerSize narrow ≡ 4
+unfolding headerSize
+narrow-header = refl
