@@ -4,6 +4,7 @@ pub mod big_endian;
 pub mod buffer;
 pub mod numbers;
 pub mod sum;
+pub mod wire;
 
 // What a call that writes hands back: number 0 and the bytes at the front of the lent buffer, or a refusal and 0.
 #[repr(C)]
