@@ -1,6 +1,6 @@
 -- Names: what number 0 says, and equality of names.
 use mathlib.Core.Path.{_≡_, refl, ap₂}
-use mathlib.Core.Bool.{true, false}
+use mathlib.Core.Bool.{Bool, true, false}
 use Prim.Native.Nat.{ℕ}
 use lib.Dec.{eqb}
 use borrow.Author.Tests.{eq-eqb, ne-eqb, eqb-true}
@@ -24,6 +24,14 @@ same-is a b h =
     let t : a .trep ≡ b .trep = eqb-true _ _ (and-left (eqb (a .trep) (b .trep)) _ h) in
     let d : a .day ≡ b .day = eqb-true _ _ (and-right (eqb (a .trep) (b .trep)) _ h) in
     ap₂ named t d
+
+-- and are different answers if they are not
+pub same-not : (a b : AnswerName) → (a ≡ b → ⊥) → sameAnswer a b ≡ false
+same-not a b n = go (sameAnswer a b) refl
+  where
+    go : (t : Bool) → sameAnswer a b ≡ t → sameAnswer a b ≡ false
+    go true e = absurd (n (same-is a b e))
+    go false e = e
 
 -- names of different days are different answers
 pub other-day : (a b : AnswerName) → (a .day ≡ b .day → ⊥) → sameAnswer a b ≡ false

@@ -7,3 +7,4 @@ pub mod PartLaws
 pub mod OrderLaws
 pub mod CallLaws
 pub mod SearchLaws
+pub mod ValueLaws

@@ -107,6 +107,15 @@ module _ (test : ℕ → Bool) (n : ℕ) where
         | no l ↦ omega arith
       ]
 
+  -- it is the one where the test holds and at none before it
+  pub first-found : (i : ℕ) → i < n → test i ≡ true → ((j : ℕ) → j < i → test j ≡ false) → firstOf test n ≡ i
+  first-found i h t before =
+      let l : firstOf test n ≤ i = first-least i t in
+      elim (decLt (firstOf test n) i) as (λ _. firstOf test n ≡ i) [
+        | yes q ↦ let z : false ≡ true = sym (before (firstOf test n) q) ∙ first-holds (omega arith) in never (cc)
+        | no q ↦ omega arith
+      ]
+
   -- and ends behind all where the test holds at none
   pub first-none : ((j : ℕ) → j < n → test j ≡ false) → firstOf test n ≡ n
   first-none none =
@@ -127,9 +136,7 @@ pub first-same : (test other : ℕ → Bool) (n : ℕ) → ((j : ℕ) → j < n 
 first-same test other n same =
     elim (decLt (firstOf other n) n) as (λ _. firstOf test n ≡ firstOf other n) [
       | yes l ↦
-          let a : firstOf test n ≤ firstOf other n = first-least test n (firstOf other n) (same (firstOf other n) l ∙ first-holds other n l) in
-          let b : firstOf other n ≤ firstOf test n = first-least other n (firstOf test n) (sym (same (firstOf test n) (omega arith)) ∙ first-holds test n (omega arith)) in
-          omega arith
+          first-found test n (firstOf other n) l (same (firstOf other n) l ∙ first-holds other n l) (λ j h. same j (omega arith) ∙ first-before other n j h)
       | no l ↦
           first-none test n (λ j h. same j h ∙ first-before other n j (omega (arith, first-most other n))) ∙ (omega (arith, first-most other n))
     ]

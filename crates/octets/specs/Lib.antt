@@ -5,3 +5,4 @@ pub mod Sum
 pub mod Buffer
 pub mod BigEndian
 pub mod Search
+pub mod Values

@@ -12,39 +12,17 @@ use lib.Seq.{take-add, drop-drop, drop-cons, getD-drop}
 use borrow.Author.Tests.{lt-ltb}
 use Rattle.octets.specs.Buffer.{partAt, Bytes}
 use Rattle.octets.specs.BigEndian.{numberOf, numberAt, bytesOf}
+use Rattle.octets.specs.Values.{upTo}
+use Rattle.octets.proofs.ValueLaws.{same-values, length-values, value-at}
 use Rattle.octets.proofs.Tests.{and-left, and-right}
 use Rattle.octets.proofs.BufferLaws.{length-part}
 use Rattle.octets.proofs.NumberLaws.{read-two, bytes-of-number}
 use Rattle.records.specs.Arrays.{kindAt, sizeAt, countAt, lengthAt, nextAt, standsAt, filledFrom, arraysFrom, behind, headerOf, arrayNumber, arrayBy, recordPlace, recordOf}
-use Rattle.records.specs.Written.{RecordArray, Sound, joined, writtenArray, written, upTo, arrayRead}
+use Rattle.records.specs.Written.{RecordArray, Sound, joined, writtenArray, written, arrayRead}
 use Rattle.records.proofs.HeaderLaws.{stands-size, stands-within}
 use Rattle.records.proofs.RunLaws.{filled-none, filled-turn, arrays-turn, arrays-none, end-none, behind-turn}
 use Rattle.records.proofs.RecordLaws.{number-then}
 use Rattle.records.proofs.WrittenLaws.{number-field}
-
--- Values at 0, 1, ..
-
-module _ {A : Type 0} where
-  pub same-values : (n : ℕ) (f g : ℕ → A) → ((i : ℕ) → i < n → f i ≡ g i) → upTo n f ≡ upTo n g
-  unfolding upTo
-  same-values zero f g e = refl
-  same-values (suc n) f g e = ap₂ (λ (x : A) (xs : List A). x ∷ xs) (e 0 (omega arith)) (same-values n (λ i. f (suc i)) (λ i. g (suc i)) (λ i h. e (suc i) (omega arith)))
-
-  pub length-values : (n : ℕ) (f : ℕ → A) → length (upTo n f) ≡ n
-  unfolding upTo
-  length-values zero f = refl
-  length-values (suc n) f = ap suc (length-values n (λ i. f (suc i)))
-
-  pub value-at : (n : ℕ) (f : ℕ → A) (i : ℕ) (d : A) → i < n → getD (upTo n f) i d ≡ f i
-  unfolding upTo
-  value-at zero f i d h = absurd (omega arith)
-  value-at (suc n) f zero d h = refl
-  value-at (suc n) f (suc i) d h = value-at n (λ j. f (suc j)) i d (omega arith)
-
-  pub values-of : (l : List A) (d : A) → upTo (length l) (λ i. getD l i d) ≡ l
-  unfolding upTo
-  values-of [] d = refl
-  values-of (x ∷ l) d = ap (λ (xs : List A). x ∷ xs) (values-of l d)
 
 -- bytes cut into records and joined again
 pub cut-joined : (size count : ℕ) (d : List ℕ) → joined (upTo count (λ k. partAt (size * k) size d)) ≡ take (size * count) d

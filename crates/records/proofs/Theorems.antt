@@ -23,7 +23,8 @@ use Rattle.records.proofs.HeaderLaws.{stands-size, stands-within}
 use Rattle.octets.proofs.OrderLaws.{unless-is, unless-refused}
 use Rattle.records.proofs.RecordLaws.{in-own, there-stands, number-then}
 use Rattle.records.proofs.WrittenLaws.{joined-record, length-list, filled-written, behind-written, kind-here, size-here, count-here, length-here, records-part}
-use Rattle.records.proofs.ReadLaws.{same-values, length-values, value-at, values-of, arrayOf, arrayHere, arraysHere, here-sound, filled-read, record-there, array-there}
+use Rattle.octets.proofs.ValueLaws.{same-values, length-values, value-at, values-of}
+use Rattle.records.proofs.ReadLaws.{arrayOf, arrayHere, arraysHere, here-sound, filled-read, record-there, array-there}
 
 -- A list of arrays, written, is a body: its count, its arrays and their records are read back
 module _ (l : List RecordArray) (sound : AllSound l) where

@@ -1,9 +1,10 @@
 -- Lists of record arrays, how they are written, and what is read from a body: the theorems hold the reader to these.
-use Prim.Native.Nat.{ℕ, zero, suc, _<_}
+use Prim.Native.Nat.{ℕ, _<_}
 use mathlib.Core.List.{List, [], _∷_, _++_}
 use mathlib.Core.Path.{_≡_}
 use lib.ListN.{length, getD}
 use Rattle.octets.specs.BigEndian.{bytesOf}
+use Rattle.octets.specs.Values.{upTo}
 use Rattle.records.specs.Arrays.{arrayCount, arrayAt, recordOf}
 
 -- an array: its type, the size of its records, and the records
@@ -42,12 +43,6 @@ written [] = []
 written (a ∷ more) = writtenArray a ++ written more
 
 -- Reading, by the calls alone
-
-module _ {A : Type 0} where
-  -- the values at 0, 1, .. below n
-  unfoldable pub upTo : ℕ → (ℕ → A) → List A
-  upTo zero value = []
-  upTo (suc n) value = value 0 ∷ upTo n (λ i. value (suc i))
 
 -- array and arrays, with their records, as the calls give them
 unfoldable pub arrayRead : ℕ → List ℕ → RecordArray

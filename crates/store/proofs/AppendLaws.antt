@@ -1,117 +1,87 @@
 -- Appending, from the tests of the code: the number, and the bytes written one behind the other.
-use Prim.Native.Nat.{ℕ, _+_, _-_, _*_, _<_, _≤_}
+use Prim.Native.Nat.{ℕ, _+_, _-_, _<_, _≤_}
 use mathlib.Core.Bool.{true, false, not}
 use mathlib.Core.List.{List, [], _++_, append-assoc}
 use mathlib.Core.Path.{_≡_, refl, sym, ap, _∙_}
 use native.Mathlib.Omega.{arith}
-use lib.Dec.{eqb, ltb, leb}
+use lib.Dec.{ltb}
 use lib.ListN.{length, getD, take, drop, length-append, length-take, length-drop}
-use lib.Seq.{slice, take-all, drop-drop, take-at, drop-at, length-take-le, length-slice}
-use borrow.Author.Tests.{lt-ltb, le-ltb, le-leb, lt-leb, eq-eqb, ne-eqb, leb-true, eqb-true, ltb-false, not-true}
+use lib.Seq.{slice, take-all, take-take, take-append-le, drop-drop, take-at, drop-at, length-take-le, length-slice}
+use borrow.Author.Tests.{lt-ltb, le-ltb, le-leb, lt-leb, ne-eqb, leb-true, ltb-false, not-true}
 use Rattle.octets.specs.Numbers.{changedBy}
 use Rattle.octets.specs.Buffer.{partAt, front, put, copied, moved, shifted}
 use Rattle.octets.specs.BigEndian.{bytesOf, withNumber}
-use Rattle.octets.proofs.BufferLaws.{length-part, length-front, put-front, lent-copy, shifted-fits}
+use Rattle.octets.proofs.BufferLaws.{length-part, length-front, length-put, put-front, put-put, lent-copy, shifted-fits}
 use Rattle.octets.proofs.CallLaws.{changed-by}
-use Rattle.catalog.specs.Name.{nameNumber}
+use Rattle.octets.proofs.NumberLaws.{length-bytes}
 use Rattle.octets.proofs.OrderLaws.{unless-is, or-zero}
-use Rattle.octets.proofs.PartLaws.{part-left, part-take, number-behind, front-kept, front-same}
-use Rattle.store.specs.Layout.{narrow, headerSize, entrySize, entriesSize, answers, streamLength, streamStart, storeLength, streamOf}
+use Rattle.octets.proofs.PartLaws.{part-left, part-take, number-put, numbers-put, front-kept}
+use Rattle.store.specs.Layout.{Form, Sized, headerSize, entrySize, entriesSize, answers, streamLength, streamStart, storeLength, streamOf}
 use Rattle.store.specs.Check.{storeNumber}
 use Rattle.store.specs.Read.{position, isHeld}
 use Rattle.store.specs.Append.{nameOf, answerNumber, roomNumber, appendNumber, withAnswer}
+use Rattle.store.proofs.FormLaws.{header-size, entry-size}
 
--- The name of an answer to append
+-- The room; m is the answer's length, n, t and b what the code read, e the size of an entry
 
-module _ (a : List ℕ) (day : ℕ) where
-  pub answer-short : length a < 2 → 12 ≡ answerNumber a day
-  unfolding answerNumber
-  answer-short h = rw (lt-leb 2 (length a) h)
-
-  pub answer-other : 2 ≤ length a → (getD a 0 0 ≡ 0x76 → ⊥) → 12 ≡ answerNumber a day
-  unfolding answerNumber
-  answer-other l h = rw (le-leb 2 (length a) l, ne-eqb (getD a 0 0) 0x76 h)
-
-  pub answer-named : (r : ℕ) → 2 ≤ length a → getD a 0 0 ≡ 0x76 → r ≡ nameNumber (nameOf a day) → r ≡ answerNumber a day
-  unfolding answerNumber
-  answer-named r l h e = rw (le-leb 2 (length a) l, eq-eqb (getD a 0 0) 0x76 h) e
-
-  -- what number 0 says: at least two bytes, 76 first, and a name that number 12 allows
-  pub answer-long : answerNumber a day ≡ 0 → 2 ≤ length a
-  unfolding answerNumber
-  answer-long e = leb-true 2 (length a) (unless-is (leb 2 (length a)) 12 _ 0 refl e .first)
-
-  pub answer-begun : answerNumber a day ≡ 0 → getD a 0 0 ≡ 0x76
-  unfolding answerNumber
-  answer-begun e = eqb-true _ _ (unless-is (eqb (getD a 0 0) 0x76) 12 _ 0 refl (unless-is (leb 2 (length a)) 12 _ 0 refl e .rest) .first)
-
-  pub answer-allowed : answerNumber a day ≡ 0 → nameNumber (nameOf a day) ≡ 0
-  unfolding answerNumber
-  answer-allowed e = unless-is (eqb (getD a 0 0) 0x76) 12 _ 0 refl (unless-is (leb 2 (length a)) 12 _ 0 refl e .rest) .rest
-
--- The room; m is the answer's length, n, t and b what the code read
-
-module _ (m : ℕ) (s : List ℕ) (n : ℕ) (en : n ≡ answers narrow s) where
-  pub room-count : 64 < n + 1 → 8 ≡ roomNumber narrow m s
+module _ (f : Form) (m : ℕ) (s : List ℕ) (n : ℕ) (en : n ≡ answers f s) where
+  pub room-count : f .answersMost < n + 1 → 8 ≡ roomNumber f m s
   unfolding roomNumber
-  room-count h = rw (← en, lt-leb (n + 1) 64 h)
+  room-count h = rw (← en, lt-leb (n + 1) (f .answersMost) h)
 
-  pub room-stream : (t : ℕ) → t ≡ streamLength narrow s → n + 1 ≤ 64 → 60000 < t + m → 8 ≡ roomNumber narrow m s
-  unfolding roomNumber
-  room-stream t et p h = rw (← en, ← et, le-leb (n + 1) 64 p, lt-leb (t + m) 60000 h)
+  module _ (t : ℕ) (et : t ≡ streamLength f s) (few : n + 1 ≤ f .answersMost) where
+    pub room-stream : f .streamMost < t + m → 8 ≡ roomNumber f m s
+    unfolding roomNumber
+    room-stream h = rw (← en, ← et, le-leb (n + 1) (f .answersMost) few, lt-leb (t + m) (f .streamMost) h)
 
-module _ (m : ℕ) (s : List ℕ) (n t b : ℕ) (en : n ≡ answers narrow s) (et : t ≡ streamLength narrow s) (eb : b ≡ streamStart narrow s) where
-  pub room-short : n + 1 ≤ 64 → t + m ≤ 60000 → length s < b + t + 8 + m → 4 ≡ roomNumber narrow m s
-  unfolding roomNumber headerSize entrySize entriesSize
-  room-short p q h =
-      let d : b ≡ 4 + 8 * n = rw en eb in
-      rw (← en, ← et, le-leb (n + 1) 64 p, le-leb (t + m) 60000 q, lt-leb (4 + 8 * n + t + 8 + m) (length s) (omega arith))
+    module _ (b e : ℕ) (eb : b ≡ streamStart f s) (ee : e ≡ entrySize f) (short : t + m ≤ f .streamMost) where
+      pub room-short : length s < b + t + e + m → 4 ≡ roomNumber f m s
+      unfolding roomNumber
+      room-short h = rw (← eb, ← en, ← et, ← ee, le-leb (n + 1) (f .answersMost) few, le-leb (t + m) (f .streamMost) short, lt-leb (b + t + e + m) (length s) h)
 
-  pub room-some : n + 1 ≤ 64 → t + m ≤ 60000 → b + t + 8 + m ≤ length s → 0 ≡ roomNumber narrow m s
-  unfolding roomNumber headerSize entrySize entriesSize
-  room-some p q h =
-      let d : b ≡ 4 + 8 * n = rw en eb in
-      rw (← en, ← et, le-leb (n + 1) 64 p, le-leb (t + m) 60000 q, le-leb (4 + 8 * n + t + 8 + m) (length s) (omega arith))
+      pub room-some : b + t + e + m ≤ length s → 0 ≡ roomNumber f m s
+      unfolding roomNumber
+      room-some h = rw (← eb, ← en, ← et, ← ee, le-leb (n + 1) (f .answersMost) few, le-leb (t + m) (f .streamMost) short, le-leb (b + t + e + m) (length s) h)
 
 -- The number of an append; r, u and q are the numbers of its parts, i and n position and count
 
-module _ (a : List ℕ) (day : ℕ) (s : List ℕ) (r : ℕ) (er : r ≡ storeNumber narrow s) where
-  pub append-broken : (r ≡ 0 → ⊥) → r ≡ appendNumber narrow a day s
+module _ (f : Form) (a : List ℕ) (day : ℕ) (s : List ℕ) (r : ℕ) (er : r ≡ storeNumber f s) where
+  pub append-broken : (r ≡ 0 → ⊥) → r ≡ appendNumber f a day s
   unfolding appendNumber
   append-broken h = rw (← er, ne-eqb r 0 h)
 
   module _ (zr : r ≡ 0) (u : ℕ) (eu : u ≡ answerNumber a day) where
-    pub append-unlisted : (u ≡ 0 → ⊥) → u ≡ appendNumber narrow a day s
+    pub append-unlisted : (u ≡ 0 → ⊥) → u ≡ appendNumber f a day s
     unfolding appendNumber
     append-unlisted h = rw (← er, zr, ← eu, ne-eqb u 0 h)
 
-    module _ (zu : u ≡ 0) (trep i n : ℕ) (et : trep ≡ getD a 1 0) (ei : i ≡ position narrow (record { trep = trep; day = day }) s) (en : n ≡ answers narrow s) where
-      here : i ≡ position narrow (nameOf a day) s
+    module _ (zu : u ≡ 0) (trep i n : ℕ) (et : trep ≡ getD a 1 0) (ei : i ≡ position f (record { trep = trep; day = day }) s) (en : n ≡ answers f s) where
+      here : i ≡ position f (nameOf a day) s
       here = rw et at ei
 
-      pub append-held : i < n → 7 ≡ appendNumber narrow a day s
+      pub append-held : i < n → 7 ≡ appendNumber f a day s
       unfolding appendNumber
       append-held h = rw (← er, zr, ← eu, zu, ← here, ← en, lt-ltb i n h)
 
-      pub append-room : (q : ℕ) → n ≤ i → q ≡ roomNumber narrow (length a) s → q ≡ appendNumber narrow a day s
+      pub append-room : (q : ℕ) → n ≤ i → q ≡ roomNumber f (length a) s → q ≡ appendNumber f a day s
       unfolding appendNumber
       append-room q h e =
-          let f : isHeld narrow (nameOf a day) s ≡ false = rw (← here, ← en) (le-ltb i n h) in
-          rw (← er, zr, ← eu, zu, f) e
+          let none : isHeld f (nameOf a day) s ≡ false = rw (← here, ← en) (le-ltb i n h) in
+          rw (← er, zr, ← eu, zu, none) e
 
 -- What number 0 says of an append
 
-pub record Accepted (a : List ℕ) (day : ℕ) (s : List ℕ) : Type 0 where
-  pub unbroken : storeNumber narrow s ≡ 0
+pub record Accepted (f : Form) (a : List ℕ) (day : ℕ) (s : List ℕ) : Type 0 where
+  pub unbroken : storeNumber f s ≡ 0
   pub listed : answerNumber a day ≡ 0
-  pub fresh : answers narrow s ≤ position narrow (nameOf a day) s
-  pub count : answers narrow s + 1 ≤ 64
-  pub stream : streamLength narrow s + length a ≤ 60000
-  pub room : storeLength narrow s + entrySize narrow + length a ≤ length s
+  pub fresh : answers f s ≤ position f (nameOf a day) s
+  pub count : answers f s + 1 ≤ f .answersMost
+  pub stream : streamLength f s + length a ≤ f .streamMost
+  pub room : storeLength f s + entrySize f + length a ≤ length s
 
-pub accepted : (a : List ℕ) (day : ℕ) (s : List ℕ) → appendNumber narrow a day s ≡ 0 → Accepted a day s
+pub accepted : (f : Form) (a : List ℕ) (day : ℕ) (s : List ℕ) → appendNumber f a day s ≡ 0 → Accepted f a day s
 unfolding appendNumber roomNumber
-accepted a day s e =
+accepted f a day s e =
     let p = or-zero _ _ e in
     let q = or-zero _ _ (p .rest) in
     let h = unless-is _ 7 _ 0 refl (q .rest) in
@@ -131,147 +101,193 @@ accepted a day s e =
     leb-free {i} {n} h = ltb-false i n (not-true (ltb i n) h)
 
 -- the same from the number r that the code tested
-module _ (a : List ℕ) (day : ℕ) (s : List ℕ) (r : ℕ) (e : r ≡ appendNumber narrow a day s) (z : r ≡ 0) where
-  pub accepted-count : answers narrow s + 1 ≤ 64
-  accepted-count = accepted a day s (sym e ∙ z) .count
+module _ (f : Form) (a : List ℕ) (day : ℕ) (s : List ℕ) (r : ℕ) (e : r ≡ appendNumber f a day s) (z : r ≡ 0) where
+  pub accepted-count : answers f s + 1 ≤ f .answersMost
+  accepted-count = accepted f a day s (sym e ∙ z) .count
 
-  pub accepted-stream : streamLength narrow s + length a ≤ 60000
-  accepted-stream = accepted a day s (sym e ∙ z) .stream
+  pub accepted-stream : streamLength f s + length a ≤ f .streamMost
+  accepted-stream = accepted f a day s (sym e ∙ z) .stream
 
-  pub accepted-room : storeLength narrow s + entrySize narrow + length a ≤ length s
-  unfolding headerSize entrySize entriesSize
-  accepted-room = accepted a day s (sym e ∙ z) .room
+  pub accepted-room : storeLength f s + entrySize f + length a ≤ length s
+  accepted-room = accepted f a day s (sym e ∙ z) .room
 
-  pub accepted-length : (b t : ℕ) → b ≡ streamStart narrow s → t ≡ streamLength narrow s → b + t + 8 + length a ≡ changedBy (appendNumber narrow a day s) (storeLength narrow s + entrySize narrow + length a) 0
-  unfolding headerSize entrySize entriesSize
-  accepted-length b t p q = changed-by r _ _ _ 0 e z (rw (p, q))
+  pub accepted-length : (b t k : ℕ) → b ≡ streamStart f s → t ≡ streamLength f s → k ≡ entrySize f
+      → b + t + k + length a ≡ changedBy (appendNumber f a day s) (storeLength f s + entrySize f + length a) 0
+  accepted-length b t k p q l = changed-by r _ _ _ 0 e z (rw (p, q, l))
 
--- The header: two fields at the front
-pub header-written : (s o₁ o₂ : List ℕ) (n t : ℕ) → 4 ≤ length s → o₁ ≡ withNumber 2 0 n s → o₂ ≡ withNumber 2 2 t o₁ → o₂ ≡ front (bytesOf 2 n ++ bytesOf 2 t) s
-header-written s o₁ o₂ n t h e₁ e₂ =
-    let f₁ : o₁ ≡ front (bytesOf 2 n) s = e₁ ∙ ap (withNumber 2 0 n) (front-same 0 s (omega arith)) ∙ number-behind [] s 2 0 n refl refl (omega arith) in
-    e₂ ∙ ap (withNumber 2 2 t) f₁ ∙ number-behind (bytesOf 2 n) s 2 2 t refl refl h
+-- Fields one behind the other
 
--- An entry: three fields one behind the other
-pub entry-written : (s o₁ o₂ o₃ : List ℕ) (at day off len : ℕ) → at + 8 ≤ length s → o₁ ≡ withNumber 4 at day s → o₂ ≡ withNumber 2 (at + 4) off o₁ → o₃ ≡ withNumber 2 (at + 4 + 2) len o₂
-    → o₃ ≡ put at (bytesOf 4 day ++ (bytesOf 2 off ++ bytesOf 2 len)) s
-unfolding put front
-entry-written s o₁ o₂ o₃ at day off len h e₁ e₂ e₃ =
-    let p : List ℕ = take at s in
-    let l : length p ≡ at = length-take-le at s (omega arith) in
-    let q : List ℕ = p ++ bytesOf 4 day in
-    let r : List ℕ = q ++ bytesOf 2 off in
-    let l₁ : length q ≡ at + 4 = length-append p (bytesOf 4 day) ∙ (omega arith) in
-    let l₂ : length r ≡ at + 4 + 2 = length-append q (bytesOf 2 off) ∙ (omega arith) in
-    let f₁ : o₁ ≡ front q s = e₁ ∙ ap (withNumber 4 at day) (front-same at s (omega arith)) ∙ number-behind p s 4 at day refl l (omega arith) in
-    let f₂ : o₂ ≡ front r s = e₂ ∙ ap (withNumber 2 (at + 4) off) f₁ ∙ number-behind q s 2 (at + 4) off refl l₁ (omega arith) in
-    let f₃ : o₃ ≡ front (r ++ bytesOf 2 len) s = e₃ ∙ ap (withNumber 2 (at + 4 + 2) len) f₂ ∙ number-behind r s 2 (at + 4 + 2) len refl l₂ (omega arith) in
-    let l₃ : length (r ++ bytesOf 2 len) ≡ at + 8 = length-append r (bytesOf 2 len) ∙ (omega arith) in
-    f₃ ∙ rw l₃ (simp append-assoc)
+module _ (f : Form) (sized : Sized f) (s o₁ o₂ : List ℕ) where
+  abbrev w : ℕ
+  w = f .width
 
-regroup : (c t e d o l s a : List ℕ) → ((((c ++ t) ++ e) ++ (d ++ (o ++ l))) ++ s) ++ a ≡ c ++ (t ++ (e ++ (d ++ (o ++ (l ++ (s ++ a))))))
-regroup c t e d o l s a = simp append-assoc
+  -- the two of the header
+  pub header-written : (n t : ℕ) → headerSize f ≤ length s → o₁ ≡ withNumber w (length (f .mark)) n s → o₂ ≡ withNumber w (length (f .mark) + w) t o₁
+      → o₂ ≡ put (length (f .mark)) (bytesOf w n ++ bytesOf w t) s
+  header-written n t h e₁ e₂ =
+      e₂ ∙ ap (withNumber w (length (f .mark) + w) t) e₁ ∙ numbers-put w w (length (f .mark)) n t s (sized .field) (sized .field) (omega (arith, header-size f))
+
+  -- the three of an entry
+  pub entry-written : (o₃ : List ℕ) (at day off len : ℕ) → at + entrySize f ≤ length s
+      → o₁ ≡ withNumber 4 at day s → o₂ ≡ withNumber w (at + 4) off o₁ → o₃ ≡ withNumber w (at + 4 + w) len o₂
+      → o₃ ≡ put at (bytesOf 4 day ++ (bytesOf w off ++ bytesOf w len)) s
+  entry-written o₃ at day off len h e₁ e₂ e₃ =
+      let size = entry-size f in
+      let d : List ℕ = bytesOf 4 day in
+      let l : length (put at d s) ≡ length s = length-put at d s (omega arith) in
+      let p : o₁ ≡ put at d s = e₁ ∙ number-put 4 at day s refl (omega arith) in
+      e₃
+      ∙ ap (withNumber w (at + 4 + w) len) e₂
+      ∙ numbers-put w w (at + 4) off len o₁ (sized .field) (sized .field) (rw p (omega arith))
+      ∙ ap (put (at + 4) (bytesOf w off ++ bytesOf w len)) p
+      ∙ put-put at d (bytesOf w off ++ bytesOf w len) s (omega arith)
+
+regroup : (k c t e d o l s a : List ℕ) → ((((k ++ (c ++ t)) ++ e) ++ (d ++ (o ++ l))) ++ s) ++ a ≡ k ++ (c ++ (t ++ (e ++ (d ++ (o ++ (l ++ (s ++ a)))))))
+regroup k c t e d o l s a = simp append-assoc
 
 -- The whole append: the stream moved up, the header, the entry, the answer
-module _ (a : List ℕ) (day : ℕ) (s : List ℕ) (n t b : ℕ) (en : n ≡ answers narrow s) (et : t ≡ streamLength narrow s) (eb : b ≡ streamStart narrow s)
-    (room : storeLength narrow s + entrySize narrow + length a ≤ length s) (o₁ o₂ o₃ : List ℕ) (e₁ : o₁ ≡ shifted b (b + t) 8 s)
-    (e₂ : o₂ ≡ front (bytesOf 2 (n + 1) ++ bytesOf 2 (t + length a)) o₁) (e₃ : o₃ ≡ put b (bytesOf 4 day ++ (bytesOf 2 t ++ bytesOf 2 (length a))) o₂) where
-  places : b ≡ 4 + 8 * n
-  unfolding headerSize entrySize entriesSize
-  places = rw en eb
+module _ (f : Form) (a : List ℕ) (day : ℕ) (s : List ℕ) (n t b k : ℕ) (en : n ≡ answers f s) (et : t ≡ streamLength f s) (eb : b ≡ streamStart f s) (ek : k ≡ entrySize f)
+    (room : storeLength f s + entrySize f + length a ≤ length s) (o₁ o₂ o₃ : List ℕ) (e₁ : o₁ ≡ shifted b (b + t) k s)
+    (e₂ : o₂ ≡ put (length (f .mark)) (bytesOf (f .width) (n + 1) ++ bytesOf (f .width) (t + length a)) o₁)
+    (e₃ : o₃ ≡ put b (bytesOf 4 day ++ (bytesOf (f .width) t ++ bytesOf (f .width) (length a))) o₂) where
+  abbrev v : ℕ
+  v = f .width
 
-  fits : b + t + 8 + length a ≤ length s
-  unfolding headerSize entrySize entriesSize
-  fits = rw (eb, et) room
+  abbrev mark : ℕ
+  mark = length (f .mark)
 
-  f₁ : o₁ ≡ take (b + 8) s ++ (slice b (b + t) s ++ drop (b + t + 8) s)
+  fields : List ℕ
+  fields = bytesOf v (n + 1) ++ bytesOf v (t + length a)
+
+  entry : List ℕ
+  entry = bytesOf 4 day ++ (bytesOf v t ++ bytesOf v (length a))
+
+  long-fields : length fields ≡ v + v
+  unfolding fields
+  long-fields = length-append (bytesOf v (n + 1)) (bytesOf v (t + length a)) ∙ omega (arith, length-bytes v (n + 1), length-bytes v (t + length a))
+
+  long-entry : length entry ≡ k
+  unfolding entry
+  long-entry =
+      length-append (bytesOf 4 day) (bytesOf v t ++ bytesOf v (length a))
+      ∙ omega (arith, length-append (bytesOf v t) (bytesOf v (length a)), length-bytes v t, length-bytes v (length a), entry-size f)
+
+  -- header and entries end where the stream began
+  start : b ≡ mark + (v + v) + entriesSize f n
+  start = omega (arith, header-size f, rw (← en) at eb)
+
+  fits : b + t + k + length a ≤ length s
+  fits = rw (eb, et, ek) room
+
+  f₁ : o₁ ≡ take (b + k) s ++ (slice b (b + t) s ++ drop (b + t + k) s)
   unfolding moved
-  f₁ = e₁ ∙ shifted-fits b (b + t) 8 s (omega arith) (omega (arith, fits))
+  f₁ = e₁ ∙ shifted-fits b (b + t) k s (omega arith) (omega (arith, fits))
 
   l₁ : length o₁ ≡ length s
   l₁ =
       let h = fits in
       rw f₁ (simp (length-append, length-take, length-drop) (omega arith))
 
-  -- the old entries stay where they were, the stream lies one entry higher, and what is behind the new store stays
-  entries : partAt 4 (8 * n) o₁ ≡ partAt 4 (8 * n) s
-  unfolding headerSize entrySize entriesSize
+  -- the mark and the old entries stay where they were, the stream lies one entry higher, and what is behind the new store stays
+  marked : take mark o₁ ≡ take mark s
+  marked =
+      let h = fits in
+      let q = start in
+      rw (f₁, take-append-le mark (take (b + k) s) (slice b (b + t) s ++ drop (b + t + k) s) (simp length-take (omega arith))) (take-take mark (b + k) s (omega arith))
+
+  entries : partAt (mark + (v + v)) (entriesSize f n) o₁ ≡ partAt (mark + (v + v)) (entriesSize f n) s
   entries =
       let h = fits in
-      let q = places in
-      rw (f₁, part-left 4 (8 * n) (take (b + 8) s) (slice b (b + t) s ++ drop (b + t + 8) s) (simp length-take (omega arith))) (part-take 4 (8 * n) (b + 8) s (omega arith) (omega arith))
+      let q = start in
+      rw (f₁, part-left (mark + (v + v)) (entriesSize f n) (take (b + k) s) (slice b (b + t) s ++ drop (b + t + k) s) (simp length-take (omega arith)))
+      (part-take (mark + (v + v)) (entriesSize f n) (b + k) s (omega arith) (omega arith))
 
-  stream : partAt (b + 8) t o₁ ≡ partAt b t s
+  stream : partAt (b + k) t o₁ ≡ partAt b t s
   stream =
       let h = fits in
-      let m : length (take (b + 8) s) ≡ b + 8 = length-take-le (b + 8) s (omega arith) in
-      let k : length (slice b (b + t) s) ≡ t = length-slice b (b + t) s (omega arith) ∙ (omega arith) in
+      let m : length (take (b + k) s) ≡ b + k = length-take-le (b + k) s (omega arith) in
+      let j : length (slice b (b + t) s) ≡ t = length-slice b (b + t) s (omega arith) ∙ (omega arith) in
       let z : slice b (b + t) s ≡ partAt b t s = sym (take-all t (slice b (b + t) s) (omega arith)) ∙ part-take b t (b + t) s (omega arith) (omega arith) in
-      rw (f₁, drop-at (take (b + 8) s) (slice b (b + t) s ++ drop (b + t + 8) s) (b + 8) m) (take-at (slice b (b + t) s) (drop (b + t + 8) s) t k ∙ z)
+      rw (f₁, drop-at (take (b + k) s) (slice b (b + t) s ++ drop (b + t + k) s) (b + k) m) (take-at (slice b (b + t) s) (drop (b + t + k) s) t j ∙ z)
 
-  behind : drop (b + t + 8 + length a) o₁ ≡ drop (b + t + 8 + length a) s
+  behind : drop (b + t + k + length a) o₁ ≡ drop (b + t + k + length a) s
   behind =
       let h = fits in
-      let m : length (take (b + 8) s) ≡ b + 8 = length-take-le (b + 8) s (omega arith) in
-      let k : length (slice b (b + t) s) ≡ t = length-slice b (b + t) s (omega arith) ∙ (omega arith) in
-      let p : List ℕ = take (b + 8) s ++ slice b (b + t) s in
-      let l : length p ≡ b + t + 8 = length-append (take (b + 8) s) (slice b (b + t) s) ∙ (omega arith) in
-      let f : o₁ ≡ p ++ drop (b + t + 8) s = f₁ ∙ sym (append-assoc (take (b + 8) s) (slice b (b + t) s) (drop (b + t + 8) s)) in
-      let g : drop (b + t + 8) o₁ ≡ drop (b + t + 8) s = rw f (drop-at p (drop (b + t + 8) s) (b + t + 8) l) in
-      sym (drop-drop (length a) (b + t + 8) o₁) ∙ ap (drop (length a)) g ∙ drop-drop (length a) (b + t + 8) s
+      let m : length (take (b + k) s) ≡ b + k = length-take-le (b + k) s (omega arith) in
+      let j : length (slice b (b + t) s) ≡ t = length-slice b (b + t) s (omega arith) ∙ (omega arith) in
+      let p : List ℕ = take (b + k) s ++ slice b (b + t) s in
+      let l : length p ≡ b + t + k = length-append (take (b + k) s) (slice b (b + t) s) ∙ (omega arith) in
+      let g : o₁ ≡ p ++ drop (b + t + k) s = f₁ ∙ sym (append-assoc (take (b + k) s) (slice b (b + t) s) (drop (b + t + k) s)) in
+      let d : drop (b + t + k) o₁ ≡ drop (b + t + k) s = rw g (drop-at p (drop (b + t + k) s) (b + t + k) l) in
+      sym (drop-drop (length a) (b + t + k) o₁) ∙ ap (drop (length a)) d ∙ drop-drop (length a) (b + t + k) s
 
-  -- the new store up to its last entry, and up to the answer
+  -- the new store up to its entries, up to its last one, and up to the answer
+  header : List ℕ
+  header = take mark s ++ fields
+
   beforeEntry : List ℕ
-  beforeEntry = (bytesOf 2 (n + 1) ++ bytesOf 2 (t + length a)) ++ partAt 4 (8 * n) s
+  beforeEntry = header ++ partAt (mark + (v + v)) (entriesSize f n) s
 
   beforeAnswer : List ℕ
-  beforeAnswer = (beforeEntry ++ (bytesOf 4 day ++ (bytesOf 2 t ++ bytesOf 2 (length a)))) ++ partAt b t s
+  beforeAnswer = (beforeEntry ++ entry) ++ partAt b t s
 
-  long-entry : length beforeEntry ≡ b
-  unfolding beforeEntry headerSize entrySize entriesSize
-  long-entry =
+  header-long : length header ≡ mark + (v + v)
+  unfolding header
+  header-long =
       let h = fits in
-      let q = places in
-      length-append (bytesOf 2 (n + 1) ++ bytesOf 2 (t + length a)) (partAt 4 (8 * n) s) ∙ (omega (arith, length-part s 4 (8 * n) (omega arith)))
+      let q = start in
+      length-append (take mark s) fields ∙ omega (arith, long-fields, length-take-le mark s (omega arith))
 
-  long-answer : length beforeAnswer ≡ b + t + 8
+  before-long : length beforeEntry ≡ b
+  unfolding beforeEntry
+  before-long =
+      let h = fits in
+      let q = start in
+      length-append header (partAt (mark + (v + v)) (entriesSize f n) s) ∙ omega (arith, header-long, length-part s (mark + (v + v)) (entriesSize f n) (omega arith))
+
+  answer-long : length beforeAnswer ≡ b + t + k
   unfolding beforeAnswer
-  long-answer =
+  answer-long =
       let h = fits in
-      length-append (beforeEntry ++ (bytesOf 4 day ++ (bytesOf 2 t ++ bytesOf 2 (length a)))) (partAt b t s)
-      ∙ omega (arith, length-append beforeEntry (bytesOf 4 day ++ (bytesOf 2 t ++ bytesOf 2 (length a))), long-entry, length-part s b t (omega arith))
+      length-append (beforeEntry ++ entry) (partAt b t s) ∙ omega (arith, length-append beforeEntry entry, before-long, long-entry, length-part s b t (omega arith))
+
+  put-is : put mark fields o₁ ≡ front header o₁
+  unfolding put front header
+  put-is =
+      let e : mark + length fields ≡ length header = omega (arith, long-fields, header-long) in
+      rw (marked, e)
 
   -- after the three writes all but the answer stands
   all : o₃ ≡ front beforeAnswer o₁
-  unfolding beforeEntry beforeAnswer headerSize entrySize entriesSize
+  unfolding header beforeEntry beforeAnswer fields entry
   all =
       let h = fits in
-      let q = places in
+      let q = start in
       let l = l₁ in
-      let p : List ℕ = bytesOf 2 (n + 1) ++ bytesOf 2 (t + length a) in
-      let v : List ℕ = bytesOf 4 day ++ (bytesOf 2 t ++ bytesOf 2 (length a)) in
-      let g₂ : o₂ ≡ front beforeEntry o₁ = e₂ ∙ front-kept p o₁ 4 (8 * n) refl (omega arith) ∙ ap (λ (x : List ℕ). front (p ++ x) o₁) entries in
-      let g₃ : o₃ ≡ front (beforeEntry ++ v) o₁ = e₃ ∙ ap (put b v) g₂ ∙ put-front b beforeEntry v o₁ long-entry in
-      let m : length (beforeEntry ++ v) ≡ b + 8 = length-append beforeEntry v ∙ (omega (arith, long-entry)) in
-      g₃ ∙ front-kept (beforeEntry ++ v) o₁ (b + 8) t m (omega arith) ∙ ap (λ (x : List ℕ). front ((beforeEntry ++ v) ++ x) o₁) stream
+      let g₁ : o₂ ≡ front header o₁ = e₂ ∙ put-is in
+      let g₂ : o₂ ≡ front beforeEntry o₁ =
+      g₁ ∙ front-kept header o₁ (mark + (v + v)) (entriesSize f n) header-long (omega arith) ∙ ap (λ (x : List ℕ). front (header ++ x) o₁) entries in
+      let g₃ : o₃ ≡ front (beforeEntry ++ entry) o₁ = e₃ ∙ ap (put b entry) g₂ ∙ put-front b beforeEntry entry o₁ before-long in
+      let m : length (beforeEntry ++ entry) ≡ b + k = length-append beforeEntry entry ∙ (omega (arith, before-long, long-entry)) in
+      g₃ ∙ front-kept (beforeEntry ++ entry) o₁ (b + k) t m (omega arith) ∙ ap (λ (x : List ℕ). front ((beforeEntry ++ entry) ++ x) o₁) stream
 
   l₃ : length o₃ ≡ length s
-  l₃ = rw (all, length-front beforeAnswer o₁ (omega (arith, long-answer, fits, l₁))) l₁
+  l₃ = rw (all, length-front beforeAnswer o₁ (omega (arith, answer-long, fits, l₁))) l₁
 
-  whole : beforeAnswer ++ a ≡ withAnswer narrow a day s
-  unfolding beforeEntry beforeAnswer withAnswer headerSize entrySize entriesSize
+  whole : beforeAnswer ++ a ≡ withAnswer f a day s
+  unfolding header beforeEntry beforeAnswer fields entry withAnswer
   whole =
-      rw (en, et, eb)
-      (regroup (bytesOf 2 (answers narrow s + 1)) (bytesOf 2 (streamLength narrow s + length a)) (partAt 4 (8 * answers narrow s) s) (bytesOf 4 day) (bytesOf 2 (streamLength narrow s))
-      (bytesOf 2 (length a)) (streamOf narrow s) a)
+      rw (← header-size f, en, et, eb)
+      (regroup (take mark s) (bytesOf v (answers f s + 1)) (bytesOf v (streamLength f s + length a)) (partAt (headerSize f) (entriesSize f (answers f s)) s) (bytesOf 4 day)
+      (bytesOf v (streamLength f s)) (bytesOf v (length a)) (streamOf f s) a)
 
-  pub last-is : (o : List ℕ) → o ≡ copied a (take (length o₃ - (b + t + 8)) (drop (b + t + 8) o₃))
-      → take (b + t + 8) o₃ ++ (o ++ drop (length o₃ - (b + t + 8)) (drop (b + t + 8) o₃)) ≡ front (withAnswer narrow a day s) s
+  pub last-is : (o : List ℕ) → o ≡ copied a (take (length o₃ - (b + t + k)) (drop (b + t + k) o₃))
+      → take (b + t + k) o₃ ++ (o ++ drop (length o₃ - (b + t + k)) (drop (b + t + k) o₃)) ≡ front (withAnswer f a day s) s
   unfolding front
   last-is o e =
-      let l : length (beforeAnswer ++ a) ≡ b + t + 8 + length a = length-append beforeAnswer a ∙ (omega (arith, long-answer)) in
-      lent-copy (b + t + 8) a o₃ o (omega (arith, fits, l₃)) e
-      ∙ ap (put (b + t + 8) a) all
-      ∙ put-front (b + t + 8) beforeAnswer a o₁ long-answer
+      let l : length (beforeAnswer ++ a) ≡ b + t + k + length a = length-append beforeAnswer a ∙ (omega (arith, answer-long)) in
+      lent-copy (b + t + k) a o₃ o (omega (arith, fits, l₃)) e
+      ∙ ap (put (b + t + k) a) all
+      ∙ put-front (b + t + k) beforeAnswer a o₁ answer-long
       ∙ ap (λ (x : List ℕ). (beforeAnswer ++ a) ++ x) (ap (λ (m : ℕ). drop m o₁) l ∙ behind ∙ ap (λ (m : ℕ). drop m s) (sym l))
       ∙ ap (λ (x : List ℕ). front x s) whole

@@ -1,23 +1,14 @@
 -- Sizes over the form, as sums: a product of the entry's size and a count is read by these laws alone.
 use Prim.Native.Nat.{ℕ, suc, _+_, _*_, _^_, _<_, _≤_}
-use mathlib.Core.Bool.{true}
 use mathlib.Core.Path.{_≡_, refl, sym, ap, _∙_}
 use native.Mathlib.Omega.{arith}
 use native.Mathlib.Nat.{mul-suc, mul-zero, mul-le-mul-left}
 use native.Mathlib.Numerals.{add-one}
 use lib.ListN.{length}
-use Rattle.octets.specs.BigEndian.{fieldWidth}
-use Rattle.store.specs.Layout.{Form, narrow, headerSize, entrySize, entriesSize, entryStart}
-
--- what a law needs of a form: fields of two or four bytes that the bounds fit, and answers bounded by the stream
-pub record Sized (f : Form) : Type 0 where
-  pub field : fieldWidth (f .width) ≡ true
-  pub counts : f .answersMost < 256 ^ f .width
-  pub streams : f .streamMost < 256 ^ f .width
-  pub bounded : f .streamMost ≤ f .answerMost
+use Rattle.store.specs.Layout.{Form, Sized, narrow, headerSize, entrySize, entriesSize, entryStart}
 
 pub narrow-sized : Sized narrow
-narrow-sized = record { field = refl; counts = omega arith; streams = omega arith; bounded = omega arith }
+narrow-sized = record { field = refl; counts = omega arith; streams = omega arith }
 
 module _ (f : Form) where
   pub header-size : headerSize f ≡ length (f .mark) + (f .width + f .width)
@@ -35,6 +26,9 @@ module _ (f : Form) where
   pub entries-next : (i : ℕ) → entriesSize f (i + 1) ≡ entriesSize f i + entrySize f
   unfolding entriesSize
   entries-next i = ap (λ (k : ℕ). entrySize f * k) (add-one i) ∙ mul-suc (entrySize f) i
+
+  pub entries-suc : (i : ℕ) → entriesSize f (suc i) ≡ entrySize f + entriesSize f i
+  entries-suc i = ap (entriesSize f) (sym (add-one i)) ∙ omega (arith, entries-next i)
 
   pub entries-within : (i n : ℕ) → i ≤ n → entriesSize f i ≤ entriesSize f n
   unfolding entriesSize

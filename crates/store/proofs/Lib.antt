@@ -2,11 +2,15 @@
 pub mod FormLaws
 pub mod CheckLaws
 pub mod ReadLaws
+pub mod AnswerLaws
 pub mod AppendLaws
 pub mod PositionLaws
 pub mod StoreLaws
-pub mod AppendedLaws
+pub mod WrittenLaws
+pub mod ContentsLaws
+pub mod ListLaws
+pub mod OwnBytes
 pub mod Theorems
 pub mod Refusals
-pub mod Example
+pub mod NarrowLaws
 pub mod Claims

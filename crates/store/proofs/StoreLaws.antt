@@ -16,7 +16,7 @@ use Rattle.octets.proofs.Tests.{and-left, and-right, and-both, never}
 use Rattle.octets.proofs.BufferLaws.{length-part}
 use Rattle.octets.proofs.OrderLaws.{Both, unless-is, unless-fails, unless-either, or-zero, or-is}
 use Rattle.octets.proofs.PartLaws.{byte-in}
-use Rattle.octets.proofs.SearchLaws.{none-at, first-before}
+use Rattle.octets.proofs.SearchLaws.{none-at, first-before, first-found}
 use Rattle.catalog.specs.Table.{listed}
 use Rattle.catalog.specs.Name.{sameAnswer, nameNumber}
 use Rattle.catalog.proofs.NameLaws.{allowed, same-self}
@@ -165,17 +165,8 @@ module _ (f : Form) where
     unfolding repeats
     position-of =
         let name : AnswerName = nameAt f i s in
-        let p : ℕ = position f name s in
-        let l : p ≤ i = position-first f name s i refl in
-        elim (decLt p i) as (λ _. p ≡ i) [
-          | yes h ↦
-              let n : nameAt f p s ≡ name = position-named f name s (omega arith) in
-              let g : i ≤ firstOf (hasName f name s) i = ltb-false (firstOf (hasName f name s) i) i (held s zero i below .new) in
-              let d : sameAnswer (nameAt f p s) name ≡ false = first-before (hasName f name s) i p (omega arith) in
-              let t : sameAnswer (nameAt f p s) name ≡ true = rw n (same-self name) in
-              never (cc)
-          | no h ↦ omega arith
-        ]
+        let none : i ≤ firstOf (hasName f name s) i = ltb-false (firstOf (hasName f name s) i) i (held s zero i below .new) in
+        first-found (hasName f name s) (answers f s) i below (same-self name) (λ j h. first-before (hasName f name s) i j (omega arith))
 
   -- Lookups
 

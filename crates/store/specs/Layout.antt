@@ -1,8 +1,10 @@
 -- The layout of a bench store, over its form: the width of a field, the bytes in front of the count, and the bounds.
-use Prim.Native.Nat.{ℕ, _+_, _*_}
+use Prim.Native.Nat.{ℕ, _+_, _*_, _^_, _<_}
+use mathlib.Core.Bool.{true}
 use mathlib.Core.List.{List, []}
+use mathlib.Core.Path.{_≡_}
 use lib.ListN.{length, getD}
-use Rattle.octets.specs.BigEndian.{numberAt}
+use Rattle.octets.specs.BigEndian.{fieldWidth, numberAt}
 use Rattle.octets.specs.Buffer.{partAt}
 use Rattle.catalog.specs.declared.AnswerName.{AnswerName}
 
@@ -15,6 +17,12 @@ pub record Form : Type 0 where
   pub answersMost : ℕ
   pub answerMost : ℕ
   pub streamMost : ℕ
+
+-- what is asked of a form: fields of two or four bytes, and bounds that fit them
+pub record Sized (f : Form) : Type 0 where
+  pub field : fieldWidth (f .width) ≡ true
+  pub counts : f .answersMost < 256 ^ f .width
+  pub streams : f .streamMost < 256 ^ f .width
 
 -- "Two bytes count of answers n (0 to 64), two bytes stream length t (0 to 60,000)"; one answer is bounded by the stream
 abbrev pub narrow : Form

@@ -3,4 +3,5 @@ pub mod Layout
 pub mod Check
 pub mod Read
 pub mod Append
+pub mod Contents
 pub mod Claims

@@ -9,4 +9,8 @@ ruleset all = (needs, cond-t, cond-f, flag-t, flag-f, eqb-same)
 
 pub day-named-spec : {M : Type 1} → statement M
 unfolding dayNamed
-day-named-spec = tie.close (tie.spec (λ c κs. search all) (λ c κs. search all) (λ c. search all) (λ c. search all))
+day-named-spec = tie.close (tie.spec
+    (λ c κs. search all)
+    (λ c κs. search all)
+    (λ c. search all)
+    (λ c. search all))

@@ -9,4 +9,10 @@ ruleset all = (needs, or-t, or-f, flag-t, flag-f)
 
 pub is-listed-spec : {M : Type 1} → statement M
 unfolding listed
-is-listed-spec = tie.close (tie.spec (λ c κs. search all) (λ c. search all) (λ c κs. search all) (λ c. search all) (λ c κs. search all) (λ c. search all))
+is-listed-spec = tie.close (tie.spec
+    (λ c κs. search all)
+    (λ c. search all)
+    (λ c κs. search all)
+    (λ c. search all)
+    (λ c κs. search all)
+    (λ c. search all))

@@ -9,4 +9,9 @@ ruleset all = (needs, early)
 
 pub name-number-spec : {M : Type 1} → statement M
 unfolding nameNumber
-name-number-spec = tie.close (tie.spec (λ c κs. search all) (λ c. search all) (λ c κs. search all) (λ c. search all) (λ c. search all))
+name-number-spec = tie.close (tie.spec
+    (λ c κs. search all)
+    (λ c. search all)
+    (λ c κs. search all)
+    (λ c. search all)
+    (λ c. search all))

@@ -7,4 +7,10 @@ use Rattle.catalog.proofs.trtp.Tie as tie
 ruleset all = (needs, no-kind, no-row, entry)
 
 pub trtp-spec : {M : Type 1} → statement M
-trtp-spec = tie.close (tie.spec (λ c. search all) (λ c. search all) (λ c. search all) (λ c. search all) (λ c. search all) (λ c. search all))
+trtp-spec = tie.close (tie.spec
+    (λ c. search all)
+    (λ c. search all)
+    (λ c. search all)
+    (λ c. search all)
+    (λ c. search all)
+    (λ c. search all))

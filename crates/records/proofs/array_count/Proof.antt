@@ -23,4 +23,12 @@ abbrev μ-loop : tie.MeasureT-loop
 μ-loop body at₀ count₀ at count = length body - at
 
 pub array-count-spec : {M : Type 1} → statement M
-array-count-spec = tie.close (tie.spec Inv-loop μ-loop (λ c. search all) (λ c κs. search all) (λ c. search all) (λ c. omega (arith, found-within _ _ _ (c .before .before .before .found-at .ensures) (search needs))) (λ c. search all) (λ c. search all) (λ c. search all) (λ c. search all))
+array-count-spec = tie.close (tie.spec Inv-loop μ-loop
+    (λ c. search all)
+    (λ c κs. search all)
+    (λ c. search all)
+    (λ c. omega (arith, found-within _ _ _ (c .before .before .before .found-at .ensures) (search needs)))
+    (λ c. search all)
+    (λ c. search all)
+    (λ c. search all)
+    (λ c. search all))

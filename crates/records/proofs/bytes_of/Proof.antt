@@ -6,4 +6,6 @@ use Rattle.records.proofs.bytes_of.Statement.{statement}
 use Rattle.records.proofs.bytes_of.Tie as tie
 
 pub bytes-of-spec : {M : Type 1} → statement M
-bytes-of-spec = tie.close (tie.spec (λ c. omega (arith, product-fits (c .args .size) (c .args .records) (search needs) (search needs))) (λ c. search needs))
+bytes-of-spec = tie.close (tie.spec
+    (λ c. omega (arith, product-fits (c .args .size) (c .args .records) (search needs) (search needs)))
+    (λ c. search needs))

@@ -19,4 +19,12 @@ abbrev μ-loop : tie.MeasureT-loop
 μ-loop body array at₀ passed₀ at passed = array - passed
 
 pub header-of-spec : {M : Type 1} → statement M
-header-of-spec = tie.close (tie.spec Inv-loop μ-loop (λ c. search all) (λ c κs. search all) (λ c. search all) (λ c. omega (arith, found-within _ _ _ (c .before .before .before .found-at .ensures) (search needs))) (λ c. search all) (λ c. search all) (λ c. search all) (λ c. search all))
+header-of-spec = tie.close (tie.spec Inv-loop μ-loop
+    (λ c. search all)
+    (λ c κs. search all)
+    (λ c. search all)
+    (λ c. omega (arith, found-within _ _ _ (c .before .before .before .found-at .ensures) (search needs)))
+    (λ c. search all)
+    (λ c. search all)
+    (λ c. search all)
+    (λ c. search all))

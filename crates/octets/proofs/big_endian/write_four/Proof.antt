@@ -9,4 +9,17 @@ use Rattle.octets.proofs.big_endian.write_four.Tie as tie
 ruleset all = (needs, stored-four)
 
 pub write-four-spec : {M : Type 1} → statement M
-write-four-spec = tie.close (tie.spec (λ c. search all) (λ c. search all) (λ c. search all) (λ c. search all) (λ c. simp length-set (omega arith)) (λ c. search all) (λ c. search all) (λ c. simp length-set (omega arith)) (λ c. search all) (λ c. search all) (λ c. simp length-set (omega arith)) (λ c. search all) (λ c. search all))
+write-four-spec = tie.close (tie.spec
+    (λ c. search all)
+    (λ c. search all)
+    (λ c. search all)
+    (λ c. search all)
+    (λ c. simp length-set (omega arith))
+    (λ c. search all)
+    (λ c. search all)
+    (λ c. simp length-set (omega arith))
+    (λ c. search all)
+    (λ c. search all)
+    (λ c. simp length-set (omega arith))
+    (λ c. search all)
+    (λ c. search all))

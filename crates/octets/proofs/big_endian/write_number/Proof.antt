@@ -7,4 +7,13 @@ use Rattle.octets.proofs.big_endian.write_number.Tie as tie
 ruleset all = (needs, write-start, write-end, write-other, write-field)
 
 pub write-number-spec : {M : Type 1} → statement M
-write-number-spec = tie.close (tie.spec (λ c. search all) (λ c. search all) (λ c κs. search all) (λ c. search all) (λ c. search all) (λ c κs. search all) (λ c. search all) (λ c. search all) (λ c. search all))
+write-number-spec = tie.close (tie.spec
+    (λ c. search all)
+    (λ c. search all)
+    (λ c κs. search all)
+    (λ c. search all)
+    (λ c. search all)
+    (λ c κs. search all)
+    (λ c. search all)
+    (λ c. search all)
+    (λ c. search all))

@@ -9,4 +9,11 @@ use Rattle.octets.proofs.big_endian.write_two.Tie as tie
 ruleset all = (needs, stored-two)
 
 pub write-two-spec : {M : Type 1} → statement M
-write-two-spec = tie.close (tie.spec (λ c. search all) (λ c. search all) (λ c. search all) (λ c. search all) (λ c. simp length-set (omega arith)) (λ c. search all) (λ c. search all))
+write-two-spec = tie.close (tie.spec
+    (λ c. search all)
+    (λ c. search all)
+    (λ c. search all)
+    (λ c. search all)
+    (λ c. simp length-set (omega arith))
+    (λ c. search all)
+    (λ c. search all))

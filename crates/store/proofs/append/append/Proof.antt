@@ -2,13 +2,24 @@
 use Rattle.octets.proofs.CallLaws.{written-is, kept-by, changed-by, zero-by}
 use Rattle.store.specs.Append.{appendResult, appendOut}
 use Rattle.store.proofs.AppendLaws.{accepted-count, accepted-stream, accepted-room, accepted-length}
-use Rattle.store.specs.Layout.{headerSize, entrySize, entriesSize}
+use Rattle.store.specs.Layout.{narrow, headerSize, entrySize, entriesSize}
 use borrow.Author.Needs.{needs}
 use Rattle.store.proofs.append.append.Statement.{statement}
 use Rattle.store.proofs.append.append.Tie as tie
 
-ruleset all = (needs, written-is, kept-by, changed-by, zero-by, accepted-count, accepted-stream, accepted-room, accepted-length)
+ruleset all = (needs, written-is, kept-by, changed-by, zero-by, accepted-length)
 
 pub append-spec : {M : Type 1} → statement M
 unfolding appendResult appendOut headerSize entrySize entriesSize
-append-spec = tie.close (tie.spec (λ c κs. search all) (λ c. search all) (λ c. search all) (λ c κs. search all) (λ c κs. search all) (λ c. search all) (λ c κs. search all) (λ c. search all) (λ c. search all) (λ c. search all) (λ c. search all))
+append-spec = tie.close (tie.spec
+    (λ c κs. search all)
+    (λ c. search all)
+    (λ c. search all)
+    (λ c κs. search all)
+    (λ c κs. search all)
+    (λ c. search all)
+    (λ c κs. search (needs, accepted-count narrow, accepted-stream narrow, accepted-room narrow))
+    (λ c. search all)
+    (λ c. search all)
+    (λ c. search all)
+    (λ c. search all))

@@ -10,4 +10,14 @@ ruleset all = (needs, whole-start, append-broken, append-unlisted, append-held, 
 
 pub append-number-spec : {M : Type 1} → statement M
 unfolding headerSize entrySize entriesSize
-append-number-spec = tie.close (tie.spec (λ c κs. search all) (λ c. search all) (λ c κs. search all) (λ c. search all) (λ c κs. search all) (λ c κs. search all) (λ c κs. search all) (λ c. search all) (λ c κs. search all) (λ c. search all))
+append-number-spec = tie.close (tie.spec
+    (λ c κs. search all)
+    (λ c. search all)
+    (λ c κs. search all)
+    (λ c. search all)
+    (λ c κs. search all)
+    (λ c κs. search all)
+    (λ c κs. search all)
+    (λ c. search all)
+    (λ c κs. search all)
+    (λ c. search all))

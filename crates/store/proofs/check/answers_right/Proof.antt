@@ -20,4 +20,12 @@ abbrev μ-loop : tie.MeasureT-loop
 μ-loop store n i₀ i = n - i
 
 pub answers-right-spec : {M : Type 1} → statement M
-answers-right-spec = tie.close (tie.spec Inv-loop μ-loop (λ c κs. search all) (λ c. search all) (λ c κs. search all) (λ c. search all) (λ c. search all) (λ c. search all) (λ c. search all) (λ c. search all))
+answers-right-spec = tie.close (tie.spec Inv-loop μ-loop
+    (λ c κs. search all)
+    (λ c. search all)
+    (λ c κs. search all)
+    (λ c. search all)
+    (λ c. search all)
+    (λ c. search all)
+    (λ c. search all)
+    (λ c. search all))

@@ -6,4 +6,8 @@ use Rattle.store.proofs.check.counts_fit.Statement.{statement}
 use Rattle.store.proofs.check.counts_fit.Tie as tie
 
 pub counts-fit-spec : {M : Type 1} → statement M
-counts-fit-spec = tie.close (tie.spec (λ c κs. search (needs, counts-many narrow, counts-is narrow)) (λ c. search (needs, counts-many narrow, counts-is narrow)) (λ c κs. search (needs, counts-many narrow, counts-is narrow)) (λ c. search (needs, counts-many narrow, counts-is narrow)))
+counts-fit-spec = tie.close (tie.spec
+    (λ c κs. search (needs, counts-many narrow, counts-is narrow))
+    (λ c. search (needs, counts-many narrow, counts-is narrow))
+    (λ c κs. search (needs, counts-many narrow, counts-is narrow))
+    (λ c. search (needs, counts-many narrow, counts-is narrow)))

@@ -20,4 +20,11 @@ abbrev μ-loop : tie.MeasureT-loop
 μ-loop store count name j₀ j = count - j
 
 pub named-before-spec : {M : Type 1} → statement M
-named-before-spec = tie.close (tie.spec Inv-loop μ-loop (λ c. search all) (λ c κs. search all) (λ c. search all) (λ c. search all) (λ c. search all) (λ c. search all) (λ c. search all))
+named-before-spec = tie.close (tie.spec Inv-loop μ-loop
+    (λ c. search all)
+    (λ c κs. search all)
+    (λ c. search all)
+    (λ c. search all)
+    (λ c. search all)
+    (λ c. search all)
+    (λ c. search all))

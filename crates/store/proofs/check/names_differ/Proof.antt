@@ -19,4 +19,13 @@ abbrev μ-loop : tie.MeasureT-loop
 μ-loop store n i₀ i = n - i
 
 pub names-differ-spec : {M : Type 1} → statement M
-names-differ-spec = tie.close (tie.spec Inv-loop μ-loop (λ c κs. search all) (λ c. search all) (λ c κs. search all) (λ c κs. search all) (λ c. search all) (λ c. search all) (λ c. search all) (λ c. search all) (λ c. search all))
+names-differ-spec = tie.close (tie.spec Inv-loop μ-loop
+    (λ c κs. search all)
+    (λ c. search all)
+    (λ c κs. search all)
+    (λ c κs. search all)
+    (λ c. search all)
+    (λ c. search all)
+    (λ c. search all)
+    (λ c. search all)
+    (λ c. search all))

@@ -9,4 +9,15 @@ ruleset all = (needs, day-read)
 
 pub entry-day-spec : {M : Type 1} → statement M
 unfolding headerSize entrySize entriesSize
-entry-day-spec = tie.close (tie.spec (λ c. search all) (λ c. search all) (λ c. search all) (λ c. search all) (λ c. search all) (λ c. search all) (λ c. search all) (λ c. search all) (λ c. search all) (λ c κs. search all) (λ c. search all))
+entry-day-spec = tie.close (tie.spec
+    (λ c. search all)
+    (λ c. search all)
+    (λ c. search all)
+    (λ c. search all)
+    (λ c. search all)
+    (λ c. search all)
+    (λ c. search all)
+    (λ c. search all)
+    (λ c. search all)
+    (λ c κs. search all)
+    (λ c. search all))

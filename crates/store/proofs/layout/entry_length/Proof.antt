@@ -9,4 +9,14 @@ ruleset all = (needs, length-read)
 
 pub entry-length-spec : {M : Type 1} → statement M
 unfolding headerSize entrySize entriesSize
-entry-length-spec = tie.close (tie.spec (λ c. search all) (λ c. search all) (λ c. search all) (λ c. search all) (λ c. search all) (λ c. search all) (λ c. search all) (λ c κs. search all) (λ c. search all) (λ c. (search all, search needs)))
+entry-length-spec = tie.close (tie.spec
+    (λ c. search all)
+    (λ c. search all)
+    (λ c. search all)
+    (λ c. search all)
+    (λ c. search all)
+    (λ c. search all)
+    (λ c. search all)
+    (λ c κs. search all)
+    (λ c. search all)
+    (λ c. (search all, search needs)))

@@ -9,4 +9,13 @@ ruleset all = (needs, offset-read)
 
 pub entry-offset-spec : {M : Type 1} → statement M
 unfolding headerSize entrySize entriesSize
-entry-offset-spec = tie.close (tie.spec (λ c. search all) (λ c. search all) (λ c. search all) (λ c. search all) (λ c. search all) (λ c. search all) (λ c κs. search all) (λ c. search all) (λ c. (search all, search needs)))
+entry-offset-spec = tie.close (tie.spec
+    (λ c. search all)
+    (λ c. search all)
+    (λ c. search all)
+    (λ c. search all)
+    (λ c. search all)
+    (λ c. search all)
+    (λ c κs. search all)
+    (λ c. search all)
+    (λ c. (search all, search needs)))

@@ -8,4 +8,11 @@ use Rattle.store.proofs.read.find.Tie as tie
 ruleset all = (needs, checked-start, checked-entry, find-none, find-missing, find-found)
 
 pub find-spec : {M : Type 1} → statement M
-find-spec = tie.close (tie.spec (λ c. search all) (λ c κs. search all) (λ c κs. search all) (λ c. search all) (λ c κs. search all) (λ c κs. search all) (λ c. search all))
+find-spec = tie.close (tie.spec
+    (λ c. search all)
+    (λ c κs. search all)
+    (λ c κs. search all)
+    (λ c. search all)
+    (λ c κs. search all)
+    (λ c κs. search all)
+    (λ c. search all))

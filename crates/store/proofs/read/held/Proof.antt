@@ -8,4 +8,12 @@ use Rattle.store.proofs.read.held.Tie as tie
 ruleset all = (needs, whole-entry, held-broken, held-missing, held-found)
 
 pub held-spec : {M : Type 1} → statement M
-held-spec = tie.close (tie.spec (λ c κs. search all) (λ c. search all) (λ c κs. search all) (λ c. search all) (λ c κs. search all) (λ c κs. search all) (λ c κs. search all) (λ c. search all))
+held-spec = tie.close (tie.spec
+    (λ c κs. search all)
+    (λ c. search all)
+    (λ c κs. search all)
+    (λ c. search all)
+    (λ c κs. search all)
+    (λ c κs. search all)
+    (λ c κs. search all)
+    (λ c. search all))

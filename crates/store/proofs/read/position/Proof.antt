@@ -21,4 +21,12 @@ abbrev μ-loop : tie.MeasureT-loop
 μ-loop store name n i₀ i = n - i
 
 pub position-spec : {M : Type 1} → statement M
-position-spec = tie.close (tie.spec Inv-loop μ-loop (λ c κs. search all) (λ c. search all) (λ c κs. search all) (λ c. search all) (λ c. search all) (λ c. search all) (λ c. search all) (λ c. search all))
+position-spec = tie.close (tie.spec Inv-loop μ-loop
+    (λ c κs. search all)
+    (λ c. search all)
+    (λ c κs. search all)
+    (λ c. search all)
+    (λ c. search all)
+    (λ c. search all)
+    (λ c. search all)
+    (λ c. search all))
