@@ -19,7 +19,7 @@ use Rattle.line.specs.Line.{toolEnd, Event}
 use Rattle.line.specs.Book as books
 use Rattle.line.specs.Book.{Run, run, start}
 use Rattle.line.specs.Premises.{AllAllowed}
-use Rattle.line.specs.Claims.{Within, isRefused, isNumber, Every}
+use Rattle.line.specs.Claims.{Within, noNumber, isNumber, Every, unnumbered}
 use Rattle.line.proofs.Cases.{never}
 use Rattle.line.proofs.Laws.{after-allowed}
 use Rattle.download.specs.CableEnds.{cableEnds, refused}
@@ -38,13 +38,13 @@ module _ (a : Addresses) (g : Premises) (es : List (Event (cableEnds a))) (o : A
   after = run (cableEnds a) (transfer a g) es (start (cableEnds a) (transfer a g))
 
   -- Numbers above the expected one, p + 1, never arrive: what the tool's frame rules let pass is one of the frames 1 to p + 1.
-  pub none-above : Every (Within (refused a toolEnd) (transfer a g .frame) 1 (suc (after .book .taken))) (after .system .toTool)
+  pub none-above : Every (Within (unnumbered (cableEnds a) (transfer a g)) (transfer a g .frame) 1 (suc (after .book .taken))) (after .system .toTool)
   none-above = after-allowed (cableEnds a) (transfer a g) (facts a g) es o .noneAbove
 
   -- The unit never answers these requests by 12, 22 or FA: all that it replies joins this queue, and what passes the frame rules there begins with 76, not with 7F.
-  begins-76 : (x : List ℕ) → Within (refused a toolEnd) (transfer a g .frame) 1 (suc (after .book .taken)) x → refused a toolEnd x ≡ false → getD (dataOf a ends.Tool x) 0 0 ≡ 0x76
+  begins-76 : (x : List ℕ) → Within (unnumbered (cableEnds a) (transfer a g)) (transfer a g .frame) 1 (suc (after .book .taken)) x → refused a toolEnd x ≡ false → getD (dataOf a ends.Tool x) 0 0 ≡ 0x76
   unfolding subField
-  begins-76 x (isRefused r) i = never (cc)
+  begins-76 x (noNumber r) i = never (cc (rw i at r))
   begins-76 x (isNumber k l h) i = rw (sub-reads-back a (g .name .trep) (suc k) (answerData g))
 
   pub no-refusal : Every (λ (x : List ℕ). refused a toolEnd x ≡ false → getD (dataOf a ends.Tool x) 0 0 ≡ 0x76) (after .system .toTool)
@@ -55,6 +55,7 @@ module _ (a : Addresses) (g : Premises) (es : List (Event (cableEnds a))) (o : A
   no-code books.waiting code e = never (cc)
   no-code books.done code e = never (cc)
   no-code books.noAnswer code e = never (cc)
+  no-code books.heldOff code e = never (cc)
 
   pub never-refused : (code : ℕ) → after .system .tool .state .outcome ≡ Refused code → ⊥
   never-refused code e = no-code (after .book .outcome) code (sym (demand3 a g es .allowed o .outcome) ∙ e)
@@ -63,6 +64,7 @@ module _ (a : Addresses) (g : Premises) (es : List (Event (cableEnds a))) (o : A
   room-left books.waiting e = never (cc)
   room-left books.done e = never (cc)
   room-left books.noAnswer e = never (cc)
+  room-left books.heldOff e = never (cc)
 
   pub never-no-room : after .system .tool .state .outcome ≡ NoRoom → ⊥
   never-no-room e = room-left (after .book .outcome) (sym (demand3 a g es .allowed o .outcome) ∙ e)

@@ -1,6 +1,7 @@
 -- Each premise is needed: the shortest list of events that breaks the claim where it is left out. Computed at the lab's addresses; the answer is 02 02 under TREP 00, one frame.
 -- Left aside is the bound of the day, which is its type in the code.
 use Prim.Native.Nat.{ℕ}
+use mathlib.Core.Bool.{false}
 use mathlib.Core.List.{List, [], _∷_, _++_}
 use mathlib.Core.Path.{_≡_, refl}
 use lib.Dec.{leb}
@@ -36,6 +37,9 @@ transferOf unit room output =
       frame = λ k. subFrame lab 0x00 k (0x02 ∷ 0x02 ∷ []);
       same = sameBytes;
       refused = refused lab;
+      asksTime = λ p x. false;
+      timeMost = 0;
+      owed = 0;
       unitPremise = λ u c. Unit {0};
       toolPremise = λ o. Unit {0};
       hasRoom = λ c. leb 260 (c .reply);

@@ -1,6 +1,6 @@
 -- Demand 3: the facts about the two cable ends, and what they give after every list of events.
-use Prim.Native.Nat.{ℕ, suc, _+_}
-use mathlib.Core.List.{List}
+use Prim.Native.Nat.{ℕ, suc, _+_, _≤_}
+use mathlib.Core.List.{List, []}
 use mathlib.Core.Path.{_≡_, refl, sym, ap, _∙_}
 use mathlib.Core.Logic.{_↔_}
 use native.Mathlib.Omega.{arith}
@@ -16,15 +16,16 @@ use Rattle.tool.specs.declared.Outcome.{Outcome}
 use Rattle.tool.specs.declared.Outcome.the-variants.{Waiting, Done, NoAnswer}
 use Rattle.tool.specs.Sent.{frameSent}
 use Rattle.tool.specs.Call.{beginState, beginSent, beginResult}
-use Rattle.line.specs.Line.{sends, Event}
+use Rattle.line.specs.Line.{silent, sends, Event}
 use Rattle.line.specs.Book as books
 use Rattle.line.specs.Book.{Run, run, start}
 use Rattle.line.specs.Premises.{AllAllowed, AllClean}
-use Rattle.line.specs.Claims.{AfterAllowed, AfterClean}
+use Rattle.line.specs.Claims.{AfterAllowed, AfterClean, ToolAs}
 use Rattle.line.proofs.Cases.{never}
-use Rattle.line.proofs.Facts.{Facts}
+use Rattle.line.specs.Facts.{Facts}
 use Rattle.line.proofs.Laws as laws
 use Rattle.line.proofs.Clean as cleanLaws
+use Rattle.line.proofs.Theorem as lineTheorem
 use Rattle.download.specs.CableEnds.{ToolRoom, cableEnds}
 use Rattle.download.specs.Demand.{Premises, answerData, heldWith, transfer, outcomeOf, Agrees, AgreesClean, Claim, Demand3}
 use Rattle.download.proofs.FrameFacts as frames
@@ -37,34 +38,65 @@ module _ (a : Addresses) (g : Premises) where
   unfolding beginResult beginState beginSent front
   begun-is = rw (g .accepted, frames.strings-asked a (g .name) 1)
 
+  -- the tool at an outcome of the book; "held off" never comes
+  abbrev pub toolAt : books.Outcome → (p f h : ℕ) → ToolRoom
+  toolAt books.waiting p f h = tools.waitingTool g p f
+  toolAt books.done p f h = tools.doneTool g f
+  toolAt books.noAnswer p f h = tools.noAnswerTool g p
+  toolAt books.heldOff p f h = tools.noAnswerTool g p
+
+  pub ended-arrival : (d : ℕ) (out : books.Outcome) (p f h : ℕ) (x : List ℕ) → (out ≡ books.waiting → ⊥)
+      → cableEnds a .toolArrival d (toolAt out p f h) x ≡ silent (toolAt out p f h)
+  ended-arrival d books.waiting p f h x e = absurd (e refl)
+  ended-arrival d books.done p f h x e = tools.done-arrival g a d f x
+  ended-arrival d books.noAnswer p f h x e = tools.no-answer-arrival g a d p x
+  ended-arrival d books.heldOff p f h x e = tools.no-answer-arrival g a d p x
+
+  pub ended-wait-end : (d : ℕ) (out : books.Outcome) (p f h : ℕ) → (out ≡ books.waiting → ⊥)
+      → cableEnds a .toolWaitEnd d (toolAt out p f h) ≡ silent (toolAt out p f h)
+  ended-wait-end d books.waiting p f h e = absurd (e refl)
+  ended-wait-end d books.done p f h e = tools.done-wait-end g a d f
+  ended-wait-end d books.noAnswer p f h e = tools.no-answer-wait-end g a d p
+  ended-wait-end d books.heldOff p f h e = tools.no-answer-wait-end g a d p
+
   unfoldable pub facts : Facts (cableEnds a) (transfer a g)
   facts =
       record {
         request = frameSent a requests.Transfer (g .name);
-        unitAfter = units.unitAfter g;
-        waitingTool = tools.waitingTool g;
-        doneTool = tools.doneTool g;
-        noAnswerTool = tools.noAnswerTool g;
+        timeReply = [];
+        unitAfter = λ n o x. units.unitAfter g n;
+        toolAt = toolAt;
+        owedAfter = λ v o. o;
         someFrame = frames.some-frame g;
+        owedAtMost = omega arith;
         unitStarts = refl;
         toolStarts = begun-is;
-        answers = λ c n k o l x y h. units.answers g c a n k o l x y h;
-        lacksRoom = λ c n x o l h. units.lacks-room g c a n o h x l;
-        unitRefuses = λ c n x o r h. units.refuses g c a n o h x r;
-        takes = λ d p f o l h. tools.takes g d o p f l (omega arith) a h;
-        endsDone = λ d p f o l e. tools.ends-done g d o p f l (omega arith) a e;
-        ignores = λ d p f k o l h b. tools.ignores g d o p f l h a k b;
-        toolRefuses = λ d p f x o l h r. tools.tool-refuses g d o p f l h a x r;
-        resends = λ d p f o l h. tools.resends g d o p f (omega arith) h a l;
-        endsNoAnswer = λ d p f o e h. tools.ends-no-answer g d o p f (omega arith) h a e;
-        doneArrival = λ d f x. tools.done-arrival g a d f x;
-        doneWaitEnd = λ d f. tools.done-wait-end g a d f;
-        noAnswerArrival = λ d p x. tools.no-answer-arrival g a d p x;
-        noAnswerWaitEnd = λ d p. tools.no-answer-wait-end g a d p;
+        setWithin = λ v o h. h;
+        sets = λ v n o x b. absurd v;
+        answers = λ c n o k x u l b y z h w. units.answers g c a n k u l y z h;
+        asksForTime = λ c n o x u l b y. absurd (omega arith);
+        lacksRoom = λ c n o x s u l b. units.lacks-room g c a n u (b .sent) s l;
+        unitRefuses = λ c n o x s u r b. units.refuses g c a n u (b .sent) s r;
+        takes = λ d p f h o w l. tools.takes g d o p f (w .failed) (w .more) a l;
+        endsDone = λ d p f h o w e. tools.ends-done g d o p f (w .failed) (w .more) a e;
+        ignores = λ d p f h k o w b. tools.ignores g d o p f (w .failed) (w .more) a k b;
+        toolRefuses = λ d p f h s o w r. tools.tool-refuses g d o p f (w .failed) (w .more) a s r;
+        resends = λ d p f h o w l. tools.resends g d o p f (w .failed) (w .more) a l;
+        endsNoAnswer = λ d p f h o w e. tools.ends-no-answer g d o p f (w .failed) (w .more) a e;
+        waitsOn = λ d f h o w l. absurd (omega arith);
+        endsHeldOff = λ d f h o w l e. absurd (omega arith);
+        ignoresTime = λ d p f h o w l b. absurd (omega arith);
+        endedArrival = ended-arrival;
+        endedWaitEnd = ended-wait-end;
         sameItself = frames.same-itself g a;
         sameLater = frames.same-later g a;
         sameRefused = λ x k h r. frames.same-refused g a x (suc k) r;
         frameIntact = λ k h. frames.frame-intact g a (suc k);
+        frameAnswers = λ p k h. refl;
+        timeNoFrame = λ l k h. absurd (omega arith);
+        timeIntact = λ l. absurd (omega arith);
+        timeAtFirst = λ l. absurd (omega arith);
+        timeNotLater = λ l p. absurd (omega arith);
       }
 
 -- The tool's outcome and the book's
@@ -72,16 +104,19 @@ done-both : (o : books.Outcome) → (outcomeOf o ≡ Done) ↔ (o ≡ books.done
 done-both books.waiting = ((λ z. never (cc)), (λ z. never (cc)))
 done-both books.done = ((λ z. refl), (λ z. refl))
 done-both books.noAnswer = ((λ z. never (cc)), (λ z. never (cc)))
+done-both books.heldOff = ((λ z. never (cc)), (λ z. never (cc)))
 
 no-answer-both : (o : books.Outcome) → (outcomeOf o ≡ NoAnswer) ↔ (o ≡ books.noAnswer)
 no-answer-both books.waiting = ((λ z. never (cc)), (λ z. never (cc)))
 no-answer-both books.done = ((λ z. never (cc)), (λ z. never (cc)))
 no-answer-both books.noAnswer = ((λ z. refl), (λ z. refl))
+no-answer-both books.heldOff = ((λ z. never (cc)), (λ z. never (cc)))
 
 waiting-both : (o : books.Outcome) → outcomeOf o ≡ Waiting → o ≡ books.waiting
 waiting-both books.waiting z = refl
 waiting-both books.done z = never (cc)
 waiting-both books.noAnswer z = never (cc)
+waiting-both books.heldOff z = never (cc)
 
 module _ (a : Addresses) (g : Premises) where
   -- what the tool holds in its room
@@ -105,31 +140,39 @@ module _ (a : Addresses) (g : Premises) where
     pub room : InRoom (r .system .tool) (r .book .taken)
     pub sendings : r .putOutBefore + r .system .tool .state .sendings ≡ r .system .putOut
 
-  pub tool-at : (r : Run (cableEnds a)) (o : books.Outcome) → r .book .outcome ≡ o → laws.ToolIs (cableEnds a) (transfer a g) (facts a g) (r .system .tool) (r .book .taken) (r .book .failed) (r .system .putOut) (r .putOutBefore) o
+  pub tool-at : (r : Run (cableEnds a)) (o : books.Outcome) → r .book .outcome ≡ o
+      → ToolAs (cableEnds a) (transfer a g) (facts a g) (r .system .tool) (r .system .putOut) (r .putOutBefore) (r .book .taken) (r .book .failed) (r .book .timeAsked) o
       → AfterAllowed (cableEnds a) (transfer a g) r → ToolAt r
   unfolding facts
   tool-at r books.waiting e t w =
       record {
         outcome = rw (t, e);
         room = in-room (r .system .tool) (r .book .taken) (rw t) (rw t);
-        sendings = rw t (sym (w .sentWaiting e));
+        sendings = rw t (sym (lineTheorem.sent-waiting refl w e));
       }
   tool-at r books.done e t w =
       let q : r .book .taken ≡ countOf (length (answerData g)) = w .doneAtQ .0 e in
       record {
-        outcome = rw (t .1, e);
-        room = in-room (r .system .tool) (r .book .taken) (rw (t .1, q)) (rw (t .1, q));
-        sendings = rw (t .1) (sym (t .2));
+        outcome = rw (t .is, e);
+        room = in-room (r .system .tool) (r .book .taken) (rw (t .is, q)) (rw (t .is, q));
+        sendings = rw (t .is) (sym (lineTheorem.sent-done refl (facts a g) t));
       }
   tool-at r books.noAnswer e t w =
       record {
         outcome = rw (t, e);
         room = in-room (r .system .tool) (r .book .taken) (rw t) (rw t);
-        sendings = rw t (sym (w .sentNoAnswer e));
+        sendings = rw t (sym (lineTheorem.sent-no-answer refl w e));
       }
+  tool-at r books.heldOff e t w = absurd (lineTheorem.never-held-off refl w e)
 
-  pub agrees-at : (r : Run (cableEnds a)) → ToolAt r → AfterAllowed (cableEnds a) (transfer a g) r → Agrees a g r
-  agrees-at r t w =
+  -- the unit by the last number that it sent
+  pub record UnitAt (r : Run (cableEnds a)) : Type 0 where
+    pub last : ℕ
+    pub most : last ≤ countOf (length (answerData g))
+    pub is : r .system .unit ≡ units.unitAfter g last
+
+  pub agrees-at : (r : Run (cableEnds a)) → ToolAt r → UnitAt r → AfterAllowed (cableEnds a) (transfer a g) r → Agrees a g r
+  agrees-at r t u w =
       let o : books.Outcome = r .book .outcome in
       let d : r .system .tool .state .outcome ≡ Done → o ≡ books.done = λ z. done-both o .0 (sym (t .outcome) ∙ z) in
       record {
@@ -141,8 +184,12 @@ module _ (a : Addresses) (g : Premises) where
         doneAtQ = ((λ z. w .doneAtQ .0 (d z)), (λ z. t .outcome ∙ done-both o .1 (w .doneAtQ .1 z)));
         whole = λ z. t .room .held ∙ ap (heldWith g) (w .doneAtQ .0 (d z)) ∙ frames.held-all g;
         noAnswerAtThree = ((λ z. w .noAnswerAtThree .0 (no-answer-both o .0 (sym (t .outcome) ∙ z))), (λ z. t .outcome ∙ no-answer-both o .1 (w .noAnswerAtThree .1 z)));
-        putOutAtMost = w .putOutAtMost;
+        putOutAtMost = lineTheorem.three-each refl w;
         sendings = t .sendings;
+        unitKind = rw (u .is) (units.kind-after g (u .last));
+        unitRate = rw (u .is) (units.rate-after g (u .last));
+        unitGranted = rw (u .is) (units.granted-after g (u .last));
+        unitPossible = rw (u .is) (units.possible-before g (u .last) (u .most));
       }
 
   pub clean-at : (r : Run (cableEnds a)) → Agrees a g r → AfterClean (cableEnds a) (transfer a g) r → AgreesClean a g r
@@ -150,18 +197,21 @@ module _ (a : Addresses) (g : Premises) where
       let o : books.Outcome = r .book .outcome in
       record {
         agrees = k;
-        doneAtArrival = ((λ z. w .doneAtArrival .0 (done-both o .0 (sym (k .outcome) ∙ z))), (λ z. k .outcome ∙ done-both o .1 (w .doneAtArrival .1 z)));
-        neverEmpty = λ z. w .neverEmpty (waiting-both o (sym (k .outcome) ∙ z));
+        doneAtArrival = ((λ z. lineTheorem.done-at-q refl refl w .0 (done-both o .0 (sym (k .outcome) ∙ z))), (λ z. k .outcome ∙ done-both o .1 (lineTheorem.done-at-q refl refl w .1 z)));
+        neverEmpty = λ z e. absurd (omega (arith, w .oneString (waiting-both o (sym (k .outcome) ∙ z)), ap length e));
         neverNoAnswer = λ z. w .neverNoAnswer (no-answer-both o .0 (sym (k .outcome) ∙ z));
-        inTime = λ z. k .outcome ∙ done-both o .1 (w .inTime z);
+        inTime = λ z. k .outcome ∙ done-both o .1 (lineTheorem.in-time refl refl w z);
       }
 
   allowed : (es : List (Event (cableEnds a))) → AllAllowed (cableEnds a) (transfer a g) es (start (cableEnds a) (transfer a g) .system)
       → Agrees a g (run (cableEnds a) (transfer a g) es (start (cableEnds a) (transfer a g)))
+  unfolding facts
   allowed es o =
       let r : Run (cableEnds a) = run (cableEnds a) (transfer a g) es (start (cableEnds a) (transfer a g)) in
       let w = laws.after-allowed (cableEnds a) (transfer a g) (facts a g) es o in
-      agrees-at r (tool-at r (r .book .outcome) refl (laws.agrees (cableEnds a) (transfer a g) (facts a g) es o .tool) w) w
+      let both = laws.agrees (cableEnds a) (transfer a g) (facts a g) es o in
+      let unit : UnitAt r = record { last = both .last; most = both .bounds .sent; is = both .unit } in
+      agrees-at r (tool-at r (r .book .outcome) refl (both .tool) w) unit w
 
   clean : (es : List (Event (cableEnds a))) → AllClean (cableEnds a) (transfer a g) es (start (cableEnds a) (transfer a g) .system)
       → AgreesClean a g (run (cableEnds a) (transfer a g) es (start (cableEnds a) (transfer a g)))

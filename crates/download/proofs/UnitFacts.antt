@@ -85,6 +85,15 @@ sending-possible before now (Sending name last) s h =
     let t : (isSplit (lookupPlace narrow name before .len - 2) && (leb 1 (last .0) && leb (last .0) (countOf (lookupPlace narrow name before .len - 2)))) ≡ true = and-right (eqb (lookupPlace narrow name before .number) 0) _ h in
     rw (n .number, n .len) (rw (b .len) at t)
 
+-- and it is unchanged in the same store
+sending-same : (store : List ℕ) (p : Phase) → phasePossible (placeSent store p) p ≡ true → SendingUnchanged p store store
+unfolding phasePossible
+sending-same store Closed h = tt
+sending-same store Started h = tt
+sending-same store Session h = tt
+sending-same store Granted h = tt
+sending-same store (Sending name last) h = record { held = sending-held store name last h; bytes = refl }
+
 module _ (g : Premises) where
   -- the unit whose last number sent is n, 0 before it answered this transfer
   abbrev pub unitAfter : ℕ → UnitState
@@ -96,7 +105,7 @@ module _ (g : Premises) where
   unfolding beginNumber requestNumber
   name-allowed = or-zero (nameNumber (g .name)) _ (g .accepted) .first
 
-  granted-after : (n : ℕ) → isGranted (unitAfter n .phase) ≡ true
+  pub granted-after : (n : ℕ) → isGranted (unitAfter n .phase) ≡ true
   granted-after zero = g .granted
   granted-after (suc k) = go (isSplit (length (answerData g)))
     where
@@ -104,9 +113,13 @@ module _ (g : Premises) where
       go true = refl
       go false = refl
 
-  kind-after : (n : ℕ) → unitAfter n .kind ≡ g .unit .kind
+  pub kind-after : (n : ℕ) → unitAfter n .kind ≡ g .unit .kind
   kind-after zero = refl
   kind-after (suc k) = refl
+
+  pub rate-after : (n : ℕ) → unitAfter n .rate ≡ g .unit .rate
+  rate-after zero = refl
+  rate-after (suc k) = refl
 
   phase-after : (n k : ℕ) → withPhase (unitAfter n) (cond (isSplit (length (answerData g))) (Sending (g .name) (sub (suc k))) Granted) ≡ unitAfter (suc k)
   phase-after zero k = refl
@@ -181,3 +194,15 @@ module _ (g : Premises) where
             (λ e.
             let z : n ≡ k = omega (arith, eqb-false (suc n) (suc (suc k)) e) in
             rw z (sent-next (lookupPlace narrow (g .name) (c .store)) (g .name) (suc k) (omega (arith, frames-most g)) (rw len h))))
+
+  -- with the store of the begin it stays possible
+  this-store : (n : ℕ) → CallPremise g (unitAfter n) (record { store = g .store; reply = 0 })
+  this-store zero = record { this = g .holds; sending = sending-same (g .store) (g .unit .phase) (ranges (g .store) (g .unit) (g .possible) .phase) }
+  this-store (suc k) = record { this = g .holds; sending = go (isSplit (length (answerData g))) }
+    where
+      go : (b : Bool) → SendingUnchanged (cond b (Sending (g .name) (sub (suc k))) Granted) (g .store) (g .store)
+      go true = record { held = g .holds .held; bytes = refl }
+      go false = tt
+
+  pub possible-before : (n : ℕ) → n ≤ countOf (length (answerData g)) → possible (g .store) (unitAfter n) ≡ true
+  possible-before n h = possible-after (record { store = g .store; reply = 0 }) n (this-store n) h

@@ -150,7 +150,7 @@ clean-run : after clean
         unitArrivals = 3;
         toolArrivals = 3;
       };
-      book = record { taken = 3; failed = 0; outcome = done };
+      book = record { taken = 3; failed = 0; timeAsked = 0; outcome = done };
       putOutBefore = 2;
     }
 unfolding calls
@@ -197,7 +197,7 @@ rough-run : after rough
         unitArrivals = 7;
         toolArrivals = 6;
       };
-      book = record { taken = 3; failed = 0; outcome = done };
+      book = record { taken = 3; failed = 0; timeAsked = 0; outcome = done };
       putOutBefore = 6;
     }
 unfolding calls

@@ -84,10 +84,12 @@ module _ (a : Addresses) where
         UnitGiven = UnitGiven;
         ToolGiven = ℕ;
         BeginGiven = BeginGiven;
+        HostGiven = ⊥;
         unitCall = unitCall;
         toolArrival = toolArrival;
         toolWaitEnd = toolWaitEnd;
         toolBegin = λ b t. cond (eqb (beginNumber (t .state) (b .request) (b .name) (b .output)) 0) (some (toolBegun b t)) none;
+        hostSets = λ v u. u;
       }
 
   -- spoiled: the receiving end's frame rules refuse the string

@@ -2,7 +2,7 @@
 -- not differ. The chain: a call → its promise → a definition (specs/ of unit and tool) → an end of the cable (CableEnds.antt) → line, events and book (specs/ of line)
 -- → the claim here. proofs/Theorem.antt proves it; proofs/Witness.antt meets its premises; proofs/Needed.antt shows what breaks without each.
 use mathlib.Core.Path.{_≡_}
-use mathlib.Core.Bool.{true}
+use mathlib.Core.Bool.{true, false}
 use mathlib.Core.List.{List, [], _∷_, _++_}
 use mathlib.Core.Logic.{_↔_}
 use Prim.Native.Nat.{ℕ, zero, suc, _+_, _*_, _≤_, _<_}
@@ -21,7 +21,7 @@ use Rattle.unit.specs.declared.Phase.the-variants.{Closed, Started, Session, Gr
 use Rattle.unit.specs.State as unitStates
 use Rattle.tool.specs.declared.Request.the-variants as requests
 use Rattle.tool.specs.declared.Outcome.{Outcome}
-use Rattle.tool.specs.declared.Outcome.the-variants.{Waiting, Done, NoAnswer}
+use Rattle.tool.specs.declared.Outcome.the-variants.{Fresh, Waiting, Done, NoAnswer}
 use Rattle.tool.specs.declared.ToolState.{ToolState}
 use Rattle.tool.specs.Call.{beginNumber}
 use Rattle.line.specs.Line.{Event}
@@ -87,13 +87,16 @@ module _ (given : Premises) where
   heldWith zero = []
   heldWith (suc p) = 0x76 ∷ given .name .trep ∷ dataUpTo (suc p)
 
+-- "held off" never comes, since no unit asks for time
 abbrev pub outcomeOf : books.Outcome → Outcome
 outcomeOf books.waiting = Waiting
 outcomeOf books.done = Done
 outcomeOf books.noAnswer = NoAnswer
+outcomeOf books.heldOff = Fresh
 
 module _ (a : Addresses) (given : Premises) where
-  -- "the answer's frames 1 to q, split as above". An event's output has 260 bytes or more; a reply buffer has any length, on a clean line 260 or more.
+  -- "the answer's frames 1 to q, split as above"; no unit asks for time. An event's output has 260 bytes or more; a reply
+  -- buffer has any length, on a clean line 260 or more.
   abbrev pub transfer : books.Transfer (cableEnds a)
   transfer =
       record {
@@ -101,6 +104,9 @@ module _ (a : Addresses) (given : Premises) where
         frame = λ k. subFrame a (given .name .trep) k (answerData given);
         same = sameBytes;
         refused = refused a;
+        asksTime = λ p x. false;
+        timeMost = 0;
+        owed = 0;
         unitPremise = CallPremise given;
         toolPremise = λ output. 260 ≤ output;
         hasRoom = λ c. leb 260 (c .reply);
@@ -108,7 +114,10 @@ module _ (a : Addresses) (given : Premises) where
         begun = toolBegun a (record { request = requests.Transfer; name = given .name; output = given .output }) (record { state = given .tool; room = given .room });
       }
 
-  -- the tool after some events, and the bytes that it holds in its room
+  -- the unit and the tool after some events, and the bytes that the tool holds in its room
+  abbrev pub unit : Run (cableEnds a) → UnitState
+  unit r = r .system .unit
+
   abbrev pub tool : Run (cableEnds a) → ToolState
   tool r = r .system .tool .state
 
@@ -136,6 +145,12 @@ module _ (a : Addresses) (given : Premises) where
     -- ended state keeps all as at its last wait but outcome and held length"): the frames put out since the step forward with
     -- which that wait began
     pub sendings : r .putOutBefore + tool r .sendings ≡ r .system .putOut
+    -- the unit keeps its kind and rate, it is granted or sends this answer or the one before, and it is possible with the
+    -- store of the begin: the next transfer can begin
+    pub unitKind : unit r .kind ≡ given .unit .kind
+    pub unitRate : unit r .rate ≡ given .unit .rate
+    pub unitGranted : unitStates.isGranted (unit r .phase) ≡ true
+    pub unitPossible : unitStates.possible (given .store) (unit r) ≡ true
 
   -- "On a clean line without early waits, done comes at the q-th arrival at the tool, the line never empty before"
   pub record AgreesClean (r : Run (cableEnds a)) : Type 0 where

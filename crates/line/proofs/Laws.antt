@@ -1,102 +1,166 @@
--- What holds after every list of allowed events, read from the invariant.
+-- Claims 1 and 3, read from the invariant.
 use mathlib.Core.Path.{_≡_, refl}
-use mathlib.Core.List.{List}
-use Prim.Native.Nat.{ℕ, suc, _+_, _≤_}
+use mathlib.Core.Bool.{true}
+use mathlib.Core.List.{List, [], _∷_}
+use Prim.Native.Nat.{ℕ, suc, _≤_}
 use native.Mathlib.Omega.{arith}
-use Rattle.line.specs.Line.{Ends, unitEnd, System, Event}
-use Rattle.line.specs.Book.{Transfer, Outcome, waiting, done, noAnswer, Book, Run, run, start}
-use Rattle.line.specs.Premises.{AllAllowed}
-use Rattle.line.specs.Claims.{Within, Every, AfterAllowed}
+use Rattle.line.specs.Line.{Ends, System, Event, step}
+use Rattle.line.specs.Book.{Transfer, Outcome, waiting, done, noAnswer, heldOff, Book, Run, run, start}
+use Rattle.line.specs.Premises.{Allowed, Plain, Unrepeated, Each, AllAllowed, AllPlain}
+use Rattle.line.specs.Facts.{Facts}
+use Rattle.line.specs.Claims.{unnumbered, AfterAllowed, AfterPlain, ToolIs, Agrees}
 use Rattle.line.proofs.Cases.{never}
-use Rattle.line.proofs.Facts.{Facts}
-use Rattle.line.proofs.Queue.{every}
-use Rattle.line.proofs.Invariant.{Stage, waits, endedDone, endedNoAnswer, bookAt, sendings, toolAt, At, Invariant, always}
+use Rattle.line.proofs.Queue.{BareToTool, isRefused, asksTime, every}
+use Rattle.line.proofs.Numbers.{UnitNumbers, ToolNumbers, bookAt, sentBy, Reached, Counts, withReplies}
+use Rattle.line.proofs.Invariant.{strings, At, Invariant, Granted, always}
 
-module _ (E : Ends) (T : Transfer E) (facts : Facts E T) where
-  open Facts facts using (request, unitAfter, waitingTool, doneTool, noAnswerTool)
+module _ (E : Ends) (T : Transfer E) (facts : Facts E T) (Unrepeatedly : Type 0) where
+  open Facts facts using (toolAt)
 
-  -- The tool has p frames taken, f failed waits and this outcome. Done, it keeps those of its last wait, in which it put out
-  -- one frame more than that.
-  abbrev pub ToolIs : E .ToolState → (p f putOut before : ℕ) → Outcome → Type 0
-  ToolIs t p f putOut before waiting = t ≡ waitingTool p f
-  ToolIs t p f putOut before done = (g : ℕ) × (t ≡ doneTool g) × (putOut ≡ before + suc g)
-  ToolIs t p f putOut before noAnswer = t ≡ noAnswerTool p
+  -- the strings without a number, as the statement tests them
+  isUnnumbered : (x : E .String) → BareToTool (strings E T facts Unrepeatedly) x → unnumbered E T x ≡ true
+  isUnnumbered x (isRefused r) = rw r
+  isUnnumbered x (asksTime l) = rw (facts .timeIntact l, facts .timeAtFirst l)
 
-  -- The two ends after a list of allowed events.
-  pub record Agrees (r : Run E) : Type 0 where
-    -- "After every list the tool waits or has ended as the book has"
-    pub tool : ToolIs (r .system .tool) (r .book .taken) (r .book .failed) (r .system .putOut) (r .putOutBefore) (r .book .outcome)
-    -- the last number that the unit sent
-    pub last : ℕ
-    pub unit : r .system .unit ≡ unitAfter last
-    pub lastAtMost : last ≤ T .q
-    -- the unit is asked only for the frame last sent or the next one
-    pub asked : Every (Within (T .refused unitEnd) request last (suc last)) (r .system .toUnit)
+  -- The claims at each outcome.
+  module _ {u : UnitNumbers} {v : ToolNumbers} {s : System E} where
+    claimsWaiting : At E T facts Unrepeatedly u v waiting s → AfterAllowed E T (record { system = s; book = bookAt v waiting; putOutBefore = v .before })
+    claimsWaiting k =
+        record {
+          takenAtMost = omega arith;
+          failedAtMost = omega arith;
+          timeAskedAtMost = omega arith;
+          doneAtQ = ((λ z. never (cc)), (λ z. absurd (omega arith)));
+          noAnswerAtThree = ((λ z. never (cc)), (λ z. absurd (omega arith)));
+          heldOffBehindMost = ((λ z. never (cc)), (λ z. absurd (omega arith)));
+          heldOffSome = λ z. never (cc);
+          timeBeforeFirst = k .tool .counts .onlyFirst;
+          sentWaiting = λ z. k .tool .sent;
+          sentNoAnswer = λ z. never (cc);
+          sentHeldOff = λ z. never (cc);
+          putOutAtMost = omega (arith, withReplies T (k .tool .counts));
+          noneAbove = every 1 (suc (v .taken)) isUnnumbered (omega arith) (omega arith) (k .order .toTool);
+        }
+
+    claimsDone : At E T facts Unrepeatedly u v done s → AfterAllowed E T (record { system = s; book = bookAt v done; putOutBefore = v .before })
+    claimsDone k =
+        record {
+          takenAtMost = omega arith;
+          failedAtMost = omega arith;
+          timeAskedAtMost = omega arith;
+          doneAtQ = ((λ z. k .tool .reached), (λ z. refl));
+          noAnswerAtThree = ((λ z. never (cc)), (λ z. absurd (omega arith)));
+          heldOffBehindMost = ((λ z. never (cc)), (λ z. absurd (omega arith)));
+          heldOffSome = λ z. never (cc);
+          timeBeforeFirst = λ l. refl;
+          sentWaiting = λ z. never (cc);
+          sentNoAnswer = λ z. never (cc);
+          sentHeldOff = λ z. never (cc);
+          putOutAtMost = omega (arith, withReplies T (k .tool .counts));
+          noneAbove = every 1 (suc (suc (v .taken))) isUnnumbered (omega arith) (omega arith) (k .order .toTool);
+        }
+
+    claimsNoAnswer : At E T facts Unrepeatedly u v noAnswer s → AfterAllowed E T (record { system = s; book = bookAt v noAnswer; putOutBefore = v .before })
+    claimsNoAnswer k =
+        record {
+          takenAtMost = omega arith;
+          failedAtMost = omega arith;
+          timeAskedAtMost = omega arith;
+          doneAtQ = ((λ z. never (cc)), (λ z. absurd (omega arith)));
+          noAnswerAtThree = ((λ z. k .tool .reached), (λ z. refl));
+          heldOffBehindMost = ((λ z. never (cc)), (λ z. absurd (omega arith)));
+          heldOffSome = λ z. never (cc);
+          timeBeforeFirst = k .tool .counts .onlyFirst;
+          sentWaiting = λ z. never (cc);
+          sentNoAnswer = λ z. omega (arith, k .tool .reached);
+          sentHeldOff = λ z. never (cc);
+          putOutAtMost = omega (arith, withReplies T (k .tool .counts));
+          noneAbove = every 1 (suc (v .taken)) isUnnumbered (omega arith) (omega arith) (k .order .toTool);
+        }
+
+    claimsHeldOff : At E T facts Unrepeatedly u v heldOff s → AfterAllowed E T (record { system = s; book = bookAt v heldOff; putOutBefore = v .before })
+    claimsHeldOff k =
+        let h : v .timeAsked ≡ T .timeMost = k .tool .reached .0 in
+        let p : v .taken ≡ 0 = k .tool .reached .1 in
+        record {
+          takenAtMost = omega arith;
+          failedAtMost = omega arith;
+          timeAskedAtMost = omega arith;
+          doneAtQ = ((λ z. never (cc)), (λ z. absurd (omega arith)));
+          noAnswerAtThree = ((λ z. never (cc)), (λ z. absurd (omega arith)));
+          heldOffBehindMost = ((λ z. omega arith), (λ z. refl));
+          heldOffSome = λ z. k .tool .reached .2;
+          timeBeforeFirst = λ l. absurd (omega arith);
+          sentWaiting = λ z. never (cc);
+          sentNoAnswer = λ z. never (cc);
+          sentHeldOff = λ z. omega arith;
+          putOutAtMost = omega (arith, withReplies T (k .tool .counts));
+          noneAbove = every 1 (suc (v .taken)) isUnnumbered (omega arith) (omega arith) (k .order .toTool);
+        }
+
+  claims : {u : UnitNumbers} {v : ToolNumbers} (out : Outcome) {s : System E} {b : Book} {before : ℕ} → b ≡ bookAt v out → before ≡ v .before
+      → At E T facts Unrepeatedly u v out s → AfterAllowed E T (record { system = s; book = b; putOutBefore = before })
+  claims waiting e m k = rw (e, m) (claimsWaiting k)
+  claims done e m k = rw (e, m) (claimsDone k)
+  claims noAnswer e m k = rw (e, m) (claimsNoAnswer k)
+  claims heldOff e m k = rw (e, m) (claimsHeldOff k)
+
+  pub afterAt : (r : Run E) → Invariant E T facts Unrepeatedly r → AfterAllowed E T r
+  afterAt r i = claims (i .outcome) (i .book) (i .before) (i .at)
 
   -- Where the invariant holds, both ends are as the book has it.
-  toolIs : (t : E .ToolState) (p putOut before : ℕ) (stage : Stage) → t ≡ toolAt E T facts p stage → putOut ≡ before + sendings stage
-      → ToolIs t (bookAt p stage .taken) (bookAt p stage .failed) putOut before (bookAt p stage .outcome)
-  toolIs t p putOut before (waits f) e s = e
-  toolIs t p putOut before (endedDone f) e s = (f, e, s)
-  toolIs t p putOut before endedNoAnswer e s = e
+  toolIs : (t : E .ToolState) (v : ToolNumbers) (putOut : ℕ) (out : Outcome) → Reached T v out → Counts T v → t ≡ toolAt out (v .taken) (v .failed) (v .timeAsked)
+      → putOut ≡ sentBy v → ToolIs E T facts t putOut (v .before) (bookAt v out)
+  toolIs t v m waiting h c e s = e
+  toolIs t v m done h c e s = record { taken = v .taken; failed = v .failed; timeAsked = v .timeAsked; waits = c .waits; last = refl; is = e; sent = s }
+  toolIs t v m noAnswer h c e s =
+      let f : v .failed ≡ 2 = omega arith in
+      rw f at e
+  toolIs t v m heldOff h c e s = rw (h .0) at e
 
-  pub agreesAt : (r : Run E) → Invariant E T facts r → Agrees r
+  pub agreesAt : (r : Run E) → Invariant E T facts Unrepeatedly r → Agrees E T facts r
   agreesAt r i =
       record {
-        tool = rw (i .book) (toolIs (r .system .tool) (i .p) (r .system .putOut) (r .putOutBefore) (i .stage) (i .at .tool) (i .at .counts .sent));
-        last = i .n;
-        unit = i .at .unit;
-        lastAtMost = omega (arith, i .at .order .asked, i .at .order .more);
-        asked = every (i .n) (suc (i .n)) (omega arith) (omega arith) (i .at .order .toUnit);
+        tool = rw (i .book, i .before) (toolIs (r .system .tool) (i .tool) (r .system .putOut) (i .outcome) (i .at .tool .reached) (i .at .tool .counts) (i .at .tool .is) (i .at .tool .sent));
+        last = i .unit .last;
+        owes = i .unit .owes;
+        replied = i .unit .replied;
+        unit = i .at .unit .is;
+        bounds = i .at .unit .owes;
+        asked = every (i .unit .last) (suc (i .unit .last)) (λ x r. r) (omega arith) (omega arith) (i .at .order .toUnit);
       }
 
-  -- The claims at a stage.
-  claimsAt : {n p : ℕ} (stage : Stage) {s : System E} {before : ℕ} → At E T facts n p stage s before
-      → AfterAllowed E T (record { system = s; book = bookAt p stage; putOutBefore = before })
-  claimsAt {n} {p} (waits f) k =
-      record {
-        takenAtMost = omega arith;
-        failedAtMost = omega (arith, k .counts .reached);
-        doneAtQ = ((λ z. never (cc)), (λ z. absurd (omega arith)));
-        noAnswerAtThree = ((λ z. never (cc)), (λ z. absurd (omega (arith, k .counts .reached))));
-        sentWaiting = λ z. k .counts .sent;
-        sentNoAnswer = λ z. never (cc);
-        putOutAtMost = omega (arith, k .counts .reached);
-        noneAbove = every 1 (suc p) (omega arith) (omega arith) (k .order .toTool);
-      }
-  claimsAt {n} {p} (endedDone f) k =
-      record {
-        takenAtMost = omega arith;
-        failedAtMost = omega arith;
-        doneAtQ = ((λ z. k .counts .reached .0), (λ z. refl));
-        noAnswerAtThree = ((λ z. never (cc)), (λ z. absurd (omega arith)));
-        sentWaiting = λ z. never (cc);
-        sentNoAnswer = λ z. never (cc);
-        putOutAtMost = omega (arith, k .counts .reached);
-        noneAbove = every 1 (suc (suc p)) (omega arith) (omega arith) (k .order .toTool);
-      }
-  claimsAt {n} {p} endedNoAnswer k =
-      record {
-        takenAtMost = omega arith;
-        failedAtMost = omega arith;
-        doneAtQ = ((λ z. never (cc)), (λ z. absurd (omega arith)));
-        noAnswerAtThree = ((λ z. refl), (λ z. refl));
-        sentWaiting = λ z. never (cc);
-        sentNoAnswer = λ z. k .counts .sent;
-        putOutAtMost = omega arith;
-        noneAbove = every 1 (suc p) (omega arith) (omega arith) (k .order .toTool);
-      }
+  -- Where no string to the tool is repeated and nothing is set, there are not enough 78 replies.
+  notHeldOff : Unrepeatedly → {u : UnitNumbers} {v : ToolNumbers} (out : Outcome) {s : System E} → At E T facts Unrepeatedly u v out s
+      → bookAt v out .outcome ≡ heldOff → ⊥
+  notHeldOff g waiting k z = never (cc)
+  notHeldOff g done k z = never (cc)
+  notHeldOff g noAnswer k z = never (cc)
+  notHeldOff g heldOff k z = omega (arith, k .budget g (k .tool .reached .1), k .tool .reached .0, facts .owedAtMost)
 
-  claims : {n p : ℕ} (stage : Stage) {s : System E} (b : Book) {before : ℕ} → b ≡ bookAt p stage → At E T facts n p stage s before
-      → AfterAllowed E T (record { system = s; book = b; putOutBefore = before })
-  claims stage b e k = rw e (claimsAt stage k)
+  pub plainAt : Unrepeatedly → (r : Run E) → Invariant E T facts Unrepeatedly r → AfterPlain E T r
+  plainAt g r i = record { neverHeldOff = rw (i .book) (notHeldOff g (i .outcome) (i .at)) }
 
-  pub afterAt : (r : Run E) → Invariant E T facts r → AfterAllowed E T r
-  afterAt r i = claims (i .stage) (r .book) (i .book) (i .at)
+module _ (E : Ends) (T : Transfer E) (facts : Facts E T) where
+  -- what is granted of each event of a list, in another form
+  allowedGranted : (es : List (Event E)) (s : System E) → AllAllowed E T es s → Each E (Granted E T facts ⊥) es s
+  allowedGranted [] s o = tt
+  allowedGranted (e ∷ es) s o = ((o .0, (λ z. absurd z)), allowedGranted es (step E e s) (o .1))
 
-  -- After every list of allowed events both ends agree with the book, and the claims of specs/Claims.antt hold.
-  pub agrees : (es : List (Event E)) → AllAllowed E T es (start E T .system) → Agrees (run E T es (start E T))
-  agrees es o = agreesAt (run E T es (start E T)) (always E T facts es o)
+  plainGranted : (es : List (Event E)) (s : System E) → AllPlain E T es s → Each E (Granted E T facts (Unit {0})) es s
+  plainGranted [] s o = tt
+  plainGranted (e ∷ es) s o = ((o .0 .0, (λ z. o .0 .1)), plainGranted es (step E e s) (o .1))
+
+  -- After every list of allowed events the claims on the book hold, and both ends agree with it.
+  invariant : (es : List (Event E)) → AllAllowed E T es (start E T .system) → Invariant E T facts ⊥ (run E T es (start E T))
+  invariant es o = always E T facts ⊥ es (allowedGranted es (start E T .system) o)
 
   pub after-allowed : (es : List (Event E)) → AllAllowed E T es (start E T .system) → AfterAllowed E T (run E T es (start E T))
-  after-allowed es o = afterAt (run E T es (start E T)) (always E T facts es o)
+  after-allowed es o = afterAt E T facts ⊥ (run E T es (start E T)) (invariant es o)
+
+  pub agrees : (es : List (Event E)) → AllAllowed E T es (start E T .system) → Agrees E T facts (run E T es (start E T))
+  agrees es o = agreesAt E T facts ⊥ (run E T es (start E T)) (invariant es o)
+
+  -- Where no string to the tool is repeated and nothing is set, "held off" never comes.
+  pub after-plain : (es : List (Event E)) → AllPlain E T es (start E T .system) → AfterPlain E T (run E T es (start E T))
+  after-plain es o = plainAt E T facts (Unit {0}) tt (run E T es (start E T)) (always E T facts (Unit {0}) es (plainGranted es (start E T .system) o))

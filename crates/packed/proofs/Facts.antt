@@ -19,8 +19,9 @@ use Rattle.tool.proofs.BoundLaws as toolBounds
 use Rattle.host.specs.Packed.{packedUnit, isUnit, noUnit, unpackedUnit, requestFrom, packedTool, unpackedTool}
 use Rattle.host.specs.Calls.{toolHanded, toolKept, toolBegin, toolBeginOut}
 use Rattle.host.proofs.UnitLaws.{unit-none, unit-again}
-use Rattle.line.specs.Line.{Result}
-use Rattle.line.proofs.Facts.{Facts}
+use Rattle.line.specs.Line.{Result, silent}
+use Rattle.line.specs.Book as books
+use Rattle.line.specs.Facts.{Facts}
 use Rattle.download.specs.CableEnds as cable
 use Rattle.download.specs.CableEnds.{ToolRoom}
 use Rattle.download.specs.Demand.{Premises, CallPremise, answerData, heldWith, transfer}
@@ -87,38 +88,76 @@ module _ (g : Premises) (bytes : StateBytes g) where
   abbrev pub known : Facts (cable.cableEnds lab) (transfer lab g)
   known = theorem.facts lab g
 
+  -- a waiting tool's calls on packed bytes
+  pub arrived : (d : List ℕ) (p f : ℕ) → suc p ≤ countOf (length (answerData g)) → (x : List ℕ)
+      → packedEnds .toolArrival d (toolBytes (tools.waitingTool g p f)) x ≡ packedTools (cable.cableEnds lab .toolArrival (length d) (tools.waitingTool g p f) x)
+  arrived d p f h x = tool-arrived d (tools.waitingTool g p f) (waiting-fits p f (omega arith)) x
+
+  pub waited : (d : List ℕ) (p f : ℕ) → suc p ≤ countOf (length (answerData g))
+      → packedEnds .toolWaitEnd d (toolBytes (tools.waitingTool g p f)) ≡ packedTools (cable.cableEnds lab .toolWaitEnd (length d) (tools.waitingTool g p f))
+  waited d p f h = tool-waited d (tools.waitingTool g p f) (waiting-fits p f (omega arith))
+
+  -- and those of an ended one
+  pub ended-arrival : (d : List ℕ) (out : books.Outcome) (p f h : ℕ) (x : List ℕ) → (out ≡ books.waiting → ⊥)
+      → packedEnds .toolArrival d (toolBytes (theorem.toolAt lab g out p f h)) x ≡ silent (toolBytes (theorem.toolAt lab g out p f h))
+  ended-arrival d books.waiting p f h x e = absurd (e refl)
+  ended-arrival d books.done p f h x e = ended-arrived d (tools.doneTool g f) refl x
+  ended-arrival d books.noAnswer p f h x e = ended-arrived d (tools.noAnswerTool g p) refl x
+  ended-arrival d books.heldOff p f h x e = ended-arrived d (tools.noAnswerTool g p) refl x
+
+  pub ended-wait-end : (d : List ℕ) (out : books.Outcome) (p f h : ℕ) → (out ≡ books.waiting → ⊥)
+      → packedEnds .toolWaitEnd d (toolBytes (theorem.toolAt lab g out p f h)) ≡ silent (toolBytes (theorem.toolAt lab g out p f h))
+  ended-wait-end d books.waiting p f h e = absurd (e refl)
+  ended-wait-end d books.done p f h e = ended-waited d (tools.doneTool g f) refl
+  ended-wait-end d books.noAnswer p f h e = ended-waited d (tools.noAnswerTool g p) refl
+  ended-wait-end d books.heldOff p f h e = ended-waited d (tools.noAnswerTool g p) refl
+
   unfoldable pub packedFacts : Facts packedEnds (packedTransfer g bytes)
   unfolding theorem.facts
   packedFacts =
       record {
         request = known .request;
-        unitAfter = λ n. packedUnit (units.unitAfter g n);
-        waitingTool = λ p f. toolBytes (tools.waitingTool g p f);
-        doneTool = λ f. toolBytes (tools.doneTool g f);
-        noAnswerTool = λ p. toolBytes (tools.noAnswerTool g p);
+        timeReply = known .timeReply;
+        unitAfter = λ n o x. packedUnit (units.unitAfter g n);
+        toolAt = λ out p f h. toolBytes (theorem.toolAt lab g out p f h);
+        owedAfter = known .owedAfter;
         someFrame = known .someFrame;
+        owedAtMost = known .owedAtMost;
         unitStarts = sym (unit-again (bytes .unit) (bytes .unitBytes) unit-is) ∙ ap packedUnit (bytes .unitIs);
         toolStarts = begun-packed ∙ ap packedTools (known .toolStarts);
-        answers = λ c n k o r x y h.
-            unit-called c (units.unitAfter g n) _ (unit-after-fits n (omega arith))
-            ∙ ap packedResult (known .answers (lengths c) n k (premise n c (omega arith) o) r x y h);
-        lacksRoom = λ c n x o r h. unit-called c (units.unitAfter g n) x (unit-after-fits n h) ∙ ap packedResult (known .lacksRoom (lengths c) n x (premise n c h o) r h);
-        unitRefuses = λ c n x o r h. unit-called c (units.unitAfter g n) x (unit-after-fits n h) ∙ ap packedResult (known .unitRefuses (lengths c) n x (premise n c h o) r h);
-        takes = λ d p f o l h. tool-arrived d (tools.waitingTool g p f) (waiting-fits p f (omega arith)) _ ∙ ap packedTools (known .takes (length d) p f o l h);
-        endsDone = λ d p f o l h. tool-arrived d (tools.waitingTool g p f) (waiting-fits p f (omega arith)) _ ∙ ap packedTools (known .endsDone (length d) p f o l h);
-        ignores = λ d p f k o l h b. tool-arrived d (tools.waitingTool g p f) (waiting-fits p f (omega arith)) _ ∙ ap packedTools (known .ignores (length d) p f k o l h b);
-        toolRefuses = λ d p f x o l h r.
-            tool-arrived d (tools.waitingTool g p f) (waiting-fits p f (omega arith)) x
-            ∙ ap packedTools (known .toolRefuses (length d) p f x o l h r)
-            ∙ sym (tool-waited d (tools.waitingTool g p f) (waiting-fits p f (omega arith)));
-        resends = λ d p f o l h. tool-waited d (tools.waitingTool g p f) (waiting-fits p f (omega arith)) ∙ ap packedTools (known .resends (length d) p f o l h);
-        endsNoAnswer = λ d p f o e h. tool-waited d (tools.waitingTool g p f) (waiting-fits p f (omega arith)) ∙ ap packedTools (known .endsNoAnswer (length d) p f o e h);
-        doneArrival = λ d f x. ended-arrived d (tools.doneTool g f) refl x;
-        doneWaitEnd = λ d f. ended-waited d (tools.doneTool g f) refl;
-        noAnswerArrival = λ d p x. ended-arrived d (tools.noAnswerTool g p) refl x;
-        noAnswerWaitEnd = λ d p. ended-waited d (tools.noAnswerTool g p) refl;
+        setWithin = λ v o h. h;
+        sets = λ v n o x b. absurd v;
+        answers = λ c n o k x u r b y z h w.
+            unit-called c (units.unitAfter g n) _ (unit-after-fits n (b .sent))
+            ∙ ap packedResult (units.answers g (lengths c) lab n k (premise n c (b .sent) u) r y z h);
+        asksForTime = λ c n o x u r b y. absurd (omega arith);
+        lacksRoom = λ c n o x s u r b.
+            unit-called c (units.unitAfter g n) s (unit-after-fits n (b .sent))
+            ∙ ap packedResult (units.lacks-room g (lengths c) lab n (premise n c (b .sent) u) (b .sent) s r);
+        unitRefuses = λ c n o x s u r b.
+            unit-called c (units.unitAfter g n) s (unit-after-fits n (b .sent))
+            ∙ ap packedResult (units.refuses g (lengths c) lab n (premise n c (b .sent) u) (b .sent) s r);
+        takes = λ d p f h o w l. arrived d p f (w .more) _ ∙ ap packedTools (tools.takes g (length d) o p f (w .failed) (w .more) lab l);
+        endsDone = λ d p f h o w e. arrived d p f (w .more) _ ∙ ap packedTools (tools.ends-done g (length d) o p f (w .failed) (w .more) lab e);
+        ignores = λ d p f h k o w b. arrived d p f (w .more) _ ∙ ap packedTools (tools.ignores g (length d) o p f (w .failed) (w .more) lab k b);
+        toolRefuses = λ d p f h s o w r.
+            arrived d p f (w .more) s
+            ∙ ap packedTools (tools.tool-refuses g (length d) o p f (w .failed) (w .more) lab s r)
+            ∙ sym (waited d p f (w .more));
+        resends = λ d p f h o w l. waited d p f (w .more) ∙ ap packedTools (tools.resends g (length d) o p f (w .failed) (w .more) lab l);
+        endsNoAnswer = λ d p f h o w e. waited d p f (w .more) ∙ ap packedTools (tools.ends-no-answer g (length d) o p f (w .failed) (w .more) lab e);
+        waitsOn = λ d f h o w l. absurd (omega arith);
+        endsHeldOff = λ d f h o w l e. absurd (omega arith);
+        ignoresTime = λ d p f h o w l b. absurd (omega arith);
+        endedArrival = ended-arrival;
+        endedWaitEnd = ended-wait-end;
         sameItself = known .sameItself;
         sameLater = known .sameLater;
         sameRefused = known .sameRefused;
         frameIntact = known .frameIntact;
+        frameAnswers = known .frameAnswers;
+        timeNoFrame = known .timeNoFrame;
+        timeIntact = known .timeIntact;
+        timeAtFirst = known .timeAtFirst;
+        timeNotLater = known .timeNotLater;
       }

@@ -13,7 +13,8 @@ use Rattle.line.specs.Line.{System, Event}
 use Rattle.line.specs.Book as books
 use Rattle.line.specs.Book.{Run}
 use Rattle.line.specs.Premises.{AllAllowed, AllClean}
-use Rattle.line.specs.Claims.{AfterAllowed, AfterClean}
+use Rattle.line.specs.Claims.{AfterAllowed, AfterClean, ToolAs}
+use Rattle.line.specs.Claims as claims
 use Rattle.line.proofs.Laws as laws
 use Rattle.line.proofs.Clean as cleanLaws
 use Rattle.download.specs.CableEnds.{ToolRoom, cableEnds}
@@ -41,7 +42,7 @@ module _ (g : Premises) (bytes : StateBytes g) (es : List (Event packedEnds)) (o
   claimed : AfterAllowed packedEnds (packedTransfer g bytes) after
   claimed = laws.after-allowed packedEnds (packedTransfer g bytes) (packedFacts g bytes) es o
 
-  agreed : laws.Agrees packedEnds (packedTransfer g bytes) (packedFacts g bytes) after
+  agreed : claims.Agrees packedEnds (packedTransfer g bytes) (packedFacts g bytes) after
   agreed = laws.agrees packedEnds (packedTransfer g bytes) (packedFacts g bytes) es o
 
   -- book, counts and queues are those of the unpacked run
@@ -50,46 +51,74 @@ module _ (g : Premises) (bytes : StateBytes g) (es : List (Event packedEnds)) (o
       record {
         takenAtMost = claimed .takenAtMost;
         failedAtMost = claimed .failedAtMost;
+        timeAskedAtMost = claimed .timeAskedAtMost;
         doneAtQ = claimed .doneAtQ;
         noAnswerAtThree = claimed .noAnswerAtThree;
+        heldOffBehindMost = claimed .heldOffBehindMost;
+        heldOffSome = claimed .heldOffSome;
+        timeBeforeFirst = claimed .timeBeforeFirst;
         sentWaiting = claimed .sentWaiting;
         sentNoAnswer = claimed .sentNoAnswer;
+        sentHeldOff = claimed .sentHeldOff;
         putOutAtMost = claimed .putOutAtMost;
         noneAbove = claimed .noneAbove;
       }
 
   -- and the tool's bytes are read as the tool that the book has
   tool-unpacked : (outcome : books.Outcome)
-      → laws.ToolIs packedEnds (packedTransfer g bytes) (packedFacts g bytes) (after .system .tool) (after .book .taken) (after .book .failed) (after .system .putOut) (after .putOutBefore) outcome
-      → laws.ToolIs (cableEnds lab) (transfer lab g) (theorem.facts lab g) (unpackedRun after .system .tool) (after .book .taken) (after .book .failed) (after .system .putOut) (after .putOutBefore) outcome
+      → ToolAs packedEnds (packedTransfer g bytes) (packedFacts g bytes) (after .system .tool) (after .system .putOut) (after .putOutBefore) (after .book .taken)
+      (after .book .failed) (after .book .timeAsked) outcome
+      → ToolAs (cableEnds lab) (transfer lab g) (theorem.facts lab g) (unpackedRun after .system .tool) (after .system .putOut) (after .putOutBefore) (after .book .taken)
+      (after .book .failed) (after .book .timeAsked) outcome
   unfolding packedFacts theorem.facts
   tool-unpacked books.waiting t = read (after .system .tool) (tools.waitingTool g (after .book .taken) (after .book .failed)) (waiting-fits g bytes (after .book .taken) (after .book .failed) (claimed .takenAtMost)) t
-  tool-unpacked books.done t = (t .0, read (after .system .tool) (tools.doneTool g (t .0)) (done-fits g bytes (t .0)) (t .1), t .2)
+  tool-unpacked books.done t =
+      record {
+        taken = t .taken;
+        failed = t .failed;
+        timeAsked = t .timeAsked;
+        waits = record { more = t .waits .more; failed = t .waits .failed; timeAsked = t .waits .timeAsked };
+        last = t .last;
+        is = read (after .system .tool) (tools.doneTool g (t .failed)) (done-fits g bytes (t .failed)) (t .is);
+        sent = t .sent;
+      }
   tool-unpacked books.noAnswer t = read (after .system .tool) (tools.noAnswerTool g (after .book .taken)) (no-answer-fits g bytes (after .book .taken) (claimed .takenAtMost)) t
+  tool-unpacked books.heldOff t = read (after .system .tool) (tools.noAnswerTool g (after .book .taken)) (no-answer-fits g bytes (after .book .taken) (claimed .takenAtMost)) t
+
+  -- so are the unit's
+  unit-unpacked : theorem.UnitAt lab g (unpackedRun after)
+  unfolding packedFacts
+  unit-unpacked =
+      let u : after .system .unit ≡ packedUnit (units.unitAfter g (agreed .last)) = agreed .unit in
+      record { last = agreed .last; most = agreed .bounds .sent; is = ap unpackedUnit u ∙ unit-after-returns g bytes (agreed .last) (agreed .bounds .sent) }
 
   pub allowed : Agrees lab g (unpackedRun after)
   allowed =
       theorem.agrees-at lab g (unpackedRun after)
-      (theorem.tool-at lab g (unpackedRun after) (after .book .outcome) refl (tool-unpacked (after .book .outcome) (agreed .tool)) claimed-unpacked) claimed-unpacked
+      (theorem.tool-at lab g (unpackedRun after) (after .book .outcome) refl (tool-unpacked (after .book .outcome) (agreed .tool)) claimed-unpacked)
+      unit-unpacked
+      claimed-unpacked
 
   -- the state bytes are what the states are packed as
   unit-packs : after .system .unit ≡ packedUnit (unpackedUnit (after .system .unit))
   unfolding packedFacts
   unit-packs =
       let u : after .system .unit ≡ packedUnit (units.unitAfter g (agreed .last)) = agreed .unit in
-      rw (u, unit-after-returns g bytes (agreed .last) (agreed .lastAtMost))
+      rw (u, unit-after-returns g bytes (agreed .last) (agreed .bounds .sent))
 
   packs-again : (b : ToolBytes) (t : ToolRoom) → toolBounds.Fits (t .state) → b ≡ toolBytes t → b .state ≡ packedTool (unpackedTool (b .state))
   packs-again b t f e = rw (e, tool-returns (t .state) f)
 
   tool-packs : (outcome : books.Outcome)
-      → laws.ToolIs packedEnds (packedTransfer g bytes) (packedFacts g bytes) (after .system .tool) (after .book .taken) (after .book .failed) (after .system .putOut) (after .putOutBefore) outcome
+      → ToolAs packedEnds (packedTransfer g bytes) (packedFacts g bytes) (after .system .tool) (after .system .putOut) (after .putOutBefore) (after .book .taken)
+      (after .book .failed) (after .book .timeAsked) outcome
       → after .system .tool .state ≡ packedTool (unpackedTool (after .system .tool .state))
   unfolding packedFacts
   tool-packs books.waiting t =
       packs-again (after .system .tool) (tools.waitingTool g (after .book .taken) (after .book .failed)) (waiting-fits g bytes (after .book .taken) (after .book .failed) (claimed .takenAtMost)) t
-  tool-packs books.done t = packs-again (after .system .tool) (tools.doneTool g (t .0)) (done-fits g bytes (t .0)) (t .1)
+  tool-packs books.done t = packs-again (after .system .tool) (tools.doneTool g (t .failed)) (done-fits g bytes (t .failed)) (t .is)
   tool-packs books.noAnswer t = packs-again (after .system .tool) (tools.noAnswerTool g (after .book .taken)) (no-answer-fits g bytes (after .book .taken) (claimed .takenAtMost)) t
+  tool-packs books.heldOff t = packs-again (after .system .tool) (tools.noAnswerTool g (after .book .taken)) (no-answer-fits g bytes (after .book .taken) (claimed .takenAtMost)) t
 
   pub packs : Packs (after .system)
   packs = record { unit = unit-packs; tool = tool-packs (after .book .outcome) (agreed .tool) }
@@ -105,8 +134,10 @@ module _ (g : Premises) (bytes : StateBytes g) (es : List (Event packedEnds)) (o
       (record {
         doneAtArrival = clean-after .doneAtArrival;
         neverNoAnswer = clean-after .neverNoAnswer;
-        neverEmpty = clean-after .neverEmpty;
+        neverHeldOff = clean-after .neverHeldOff;
+        oneString = clean-after .oneString;
         inTime = clean-after .inTime;
+        putOutAtDone = clean-after .putOutAtDone;
       })
 
 -- one claim about every list of calls that a C host makes

@@ -45,6 +45,9 @@ module _ (given : Premises) (bytes : StateBytes given) where
         frame = transfer lab given .frame;
         same = transfer lab given .same;
         refused = transfer lab given .refused;
+        asksTime = transfer lab given .asksTime;
+        timeMost = transfer lab given .timeMost;
+        owed = transfer lab given .owed;
         unitPremise = λ state c. CallPremise given (unpackedUnit state) (lengths c);
         toolPremise = λ output. 260 ≤ length output;
         hasRoom = λ c. leb 260 (length (c .reply));

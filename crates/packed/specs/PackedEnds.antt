@@ -92,8 +92,10 @@ packedEnds =
       UnitGiven = UnitGiven;
       ToolGiven = List ℕ;
       BeginGiven = BeginGiven;
+      HostGiven = ⊥;
       unitCall = unitCall;
       toolArrival = toolArrival;
       toolWaitEnd = toolWaitEnd;
       toolBegin = λ b t. cond (eqb (begunBy b t .number) 0) (some (toolBegun b t)) none;
+      hostSets = λ v u. u;
     }
