@@ -19,7 +19,8 @@ use Rattle.split.proofs.Theorems.{split-252, split-253, split-501, split-502}
 use Rattle.store.specs.Layout.{narrow}
 use Rattle.store.specs.Read.{lookupNumber, lookupPlace, lookupPart}
 use Rattle.store.proofs.ReadLaws.{number-of-place}
-use Rattle.store.specs.Append.{answerNumber, roomNumber, appendNumber, withAnswer, appendOut}
+use Rattle.store.specs.Answer.{answerNumber}
+use Rattle.append.specs.Append.{roomNumber, appendNumber, withAnswer, appendOut}
 use Rattle.unit.specs.declared.UnitState.{UnitState}
 use Rattle.unit.specs.declared.Phase.the-variants.{Started, Session, Granted, Sending}
 use Rattle.unit.specs.declared.Reaction.{Reaction}

@@ -16,7 +16,7 @@ use Rattle.split.specs.Join.{framesOf}
 use Rattle.store.specs.Layout.{narrow}
 use Rattle.store.specs.Check.{storeNumber}
 use Rattle.store.specs.Read.{lookupNumber, lookupPart}
-use Rattle.store.specs.Append.{appendOut}
+use Rattle.append.specs.Append.{appendOut}
 use Rattle.unit.specs.declared.UnitState.{UnitState}
 use Rattle.unit.specs.declared.Phase.the-variants.{Started, Session, Granted, Sending}
 use Rattle.unit.specs.State as unitStates

@@ -6,7 +6,7 @@ ghost use mathlib.Core.Path.{_≡_};
 ghost use Rattle.store.specs.Layout.{narrow};
 ghost use Rattle.store.specs.Check.{storeNumber};
 ghost use Rattle.store.specs.Read.{lookupPlace, streamPlace};
-ghost use Rattle.store.specs.Append.{appendResult, appendOut};
+ghost use Rattle.append.specs.Append.{appendResult, appendOut};
 
 // 0 for an unbroken store, else 5.
 #[no_mangle]
@@ -38,5 +38,5 @@ pub extern "C" fn tacho_store_append(store: &mut [u8], answer: &[u8], day: u32) 
     ensures { λ r. ⌜ r ≡ appendResult narrow (now (answer .entry)) day (now (store .entry)) ⌝ }
     ensures { λ _. ⌜ now (store .exit) ≡ appendOut narrow (now (answer .entry)) day (now (store .entry)) ⌝ }
 {
-    store::append::append(store, answer, day)
+    append::append(store, answer, day)
 }

@@ -24,7 +24,7 @@ fn put(store: &mut [u8], trep: u8, day: u32, len: usize) {
         start: 0,
         len: len + 2,
     };
-    store::append::append(store, octets::buffer::part(&answer, place), day);
+    append::append(store, octets::buffer::part(&answer, place), day);
 }
 
 pub(crate) fn fill(store: &mut [u8]) {

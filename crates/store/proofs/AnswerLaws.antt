@@ -7,7 +7,7 @@ use lib.ListN.{length, getD}
 use borrow.Author.Tests.{le-leb, lt-leb, eq-eqb, ne-eqb, leb-true, eqb-true}
 use Rattle.octets.proofs.OrderLaws.{unless-is}
 use Rattle.catalog.specs.Name.{nameNumber}
-use Rattle.store.specs.Append.{nameOf, answerNumber}
+use Rattle.store.specs.Answer.{nameOf, answerNumber}
 
 module _ (a : List ℕ) (day : ℕ) where
   pub answer-short : length a < 2 → 12 ≡ answerNumber a day

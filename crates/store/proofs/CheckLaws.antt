@@ -1,8 +1,8 @@
 -- The five checks, from the tests of the code.
-use Prim.Native.Nat.{ℕ, suc, _+_, _-_, _*_, _<_, _≤_}
-use mathlib.Core.Bool.{Bool, true, false, not, _&&_}
+use Prim.Native.Nat.{ℕ, _+_, _-_, _<_, _≤_}
+use mathlib.Core.Bool.{Bool, true, false, not}
 use mathlib.Core.List.{List, [], _∷_}
-use mathlib.Core.Path.{_≡_, refl, sym, ap, _∙_}
+use mathlib.Core.Path.{_≡_, refl, sym, _∙_}
 use native.Mathlib.Omega.{arith}
 use native.Mathlib.Numerals.{add-one}
 use lib.Dec.{eqb, leb}
@@ -16,9 +16,9 @@ use Rattle.octets.proofs.NumberLaws.{read-two, read-four}
 use Rattle.catalog.specs.Name.{sameAnswer, nameNumber}
 use Rattle.catalog.specs.declared.AnswerName.{AnswerName}
 use Rattle.catalog.proofs.NameLaws.{other-day}
-use Rattle.store.specs.Layout.{Form, narrow, headerSize, entrySize, entryStart, answers, streamLength, streamStart, storeLength, entryDay, entryOffset, entryLength, answerStart, nameAt}
+use Rattle.store.specs.Layout.{Form, headerSize, entrySize, entryStart, answers, streamLength, streamStart, storeLength, entryDay, entryOffset, entryLength, answerStart, nameAt}
 use Rattle.store.specs.Check.{headerFits, countsFit, filledTo, placeRight, placesRight, answerRight, answersRight, repeats, namesDiffer, storeNumber}
-use Rattle.store.proofs.FormLaws.{entry-size, entry-below, narrow-start, narrow-entry}
+use Rattle.store.proofs.FormLaws.{entry-size, entry-below}
 
 -- the fields of an entry that lies in the buffer, from its bytes; at is where it starts
 module _ (f : Form) (s : List ℕ) (i r at : ℕ) (h : entryStart f i + entrySize f ≤ length s) (e : at ≡ entryStart f i) where

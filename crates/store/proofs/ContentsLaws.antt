@@ -1,33 +1,30 @@
 -- A store that reads as a list that it may hold is unbroken and has that list as its contents; an unbroken store reads as its contents.
 use Prim.Native.Nat.{ℕ, zero, suc, _+_, _<_, _≤_}
-use mathlib.Core.Bool.{Bool, true, false, not}
+use mathlib.Core.Bool.{true, false, not}
 use mathlib.Core.List.{List, [], _∷_, _++_, append-nil}
 use mathlib.Core.Path.{_≡_, refl, sym, ap, _∙_}
 use native.Mathlib.Omega.{arith}
 use native.Mathlib.Nat.{add-zero}
-use native.Mathlib.Decide.{decLt}
-use lib.ListN.{length, getD, take, drop, length-append, take-append-drop}
-use lib.Seq.{take-suc, take-all, take-add, drop-drop}
-use borrow.Author.Tests.{le-leb, eq-eqb, not-true}
+use lib.ListN.{length, getD, take, length-append}
+use lib.Seq.{take-suc, take-all, take-add}
+use borrow.Author.Tests.{eq-eqb, not-true}
 use Rattle.octets.specs.Buffer.{Bytes, partAt}
-use Rattle.octets.specs.Search.{anyOf, noneOf}
-use Rattle.octets.specs.Values.{upTo}
-use Rattle.octets.proofs.Tests.{and-both, never}
+use Rattle.octets.specs.Search.{noneOf}
+use Rattle.octets.proofs.Tests.{and-both}
 use Rattle.octets.proofs.BufferLaws.{length-part}
 use Rattle.octets.proofs.NumberLaws.{number-fits}
 use Rattle.octets.proofs.PartLaws.{part-in, byte-in, bytes-part}
 use Rattle.octets.proofs.SearchLaws.{none-built}
 use Rattle.octets.proofs.ValueLaws.{same-values, length-values, value-at, values-of}
-use Rattle.catalog.specs.Name.{sameAnswer, nameNumber}
+use Rattle.catalog.specs.Name.{sameAnswer}
 use Rattle.catalog.proofs.NameLaws.{same-not}
 use Rattle.catalog.specs.declared.AnswerName.{AnswerName}
 use Rattle.store.specs.Layout.{Form, answers, streamLength, streamStart, streamOf, entryStart, entryOffset, entryLength, answerStart, answerAt, nameAt}
 use Rattle.store.specs.Check.{filledTo, placeRight, placesRight, answerRight, answersRight, repeats, namesDiffer, storeNumber}
 use Rattle.store.specs.Read.{position}
-use Rattle.store.specs.Append.{nameOf, answerNumber}
 use Rattle.store.specs.Contents.{Stored, nameFor, nothing, backToBack, offsetOf, storedAt, contents, Listed, Holdable}
 use Rattle.store.proofs.AnswerLaws.{answer-long, answer-begun, answer-allowed, answer-named}
-use Rattle.store.proofs.StoreLaws.{unbroken, unbroken-zero, held, place-built, places-fill, answer-within, answer-length, position-of}
+use Rattle.store.proofs.StoreLaws.{unbroken, unbroken-zero, held, place-built, places-fill, answer-length, position-of}
 use Rattle.store.proofs.WrittenLaws.{Reads, back-append, answer-inside, answer-part}
 
 -- one answer further in a list

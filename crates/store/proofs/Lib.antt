@@ -3,7 +3,6 @@ pub mod FormLaws
 pub mod CheckLaws
 pub mod ReadLaws
 pub mod AnswerLaws
-pub mod AppendLaws
 pub mod PositionLaws
 pub mod StoreLaws
 pub mod WrittenLaws

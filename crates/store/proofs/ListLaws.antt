@@ -1,14 +1,14 @@
 -- Names in a list of answers: each is found at its own place, and one answer more at the end changes nothing for the other names.
 use Prim.Native.Nat.{ℕ, _+_, _<_, _≤_}
-use mathlib.Core.Bool.{Bool, true, false}
+use mathlib.Core.Bool.{Bool, false}
 use mathlib.Core.List.{List, [], _∷_, _++_, append-nil}
-use mathlib.Core.Path.{_≡_, refl, sym, ap, _∙_}
+use mathlib.Core.Path.{_≡_, sym, ap, _∙_}
 use native.Mathlib.Omega.{arith}
 use native.Mathlib.Decide.{decLt}
 use lib.ListN.{length, getD, length-append, List·getD-append, List·getD-eq-default}
 use lib.Seq.{getD-append-seam}
 use borrow.Author.Tests.{lt-ltb, le-ltb}
-use Rattle.octets.proofs.SearchLaws.{first-most, first-holds, first-before, first-found, first-none}
+use Rattle.octets.proofs.SearchLaws.{first-holds, first-before, first-found, first-none}
 use Rattle.catalog.specs.Name.{sameAnswer}
 use Rattle.catalog.specs.declared.AnswerName.{AnswerName}
 use Rattle.catalog.proofs.NameLaws.{same-self, same-not}

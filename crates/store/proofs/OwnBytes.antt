@@ -1,31 +1,24 @@
--- An unbroken store is, in its own bytes, the store of its contents; appended to, that of its contents and the answer.
+-- An unbroken store is, in its own bytes, the store of its contents.
 use Prim.Native.Nat.{ℕ, zero, suc, _+_, _<_, _≤_}
 use mathlib.Core.List.{List, [], _∷_, _++_, append-assoc, append-nil}
 use mathlib.Core.Path.{_≡_, refl, sym, ap, _∙_}
 use native.Mathlib.Omega.{arith}
 use native.Mathlib.Nat.{zero-add}
-use lib.ListN.{length, getD, take, length-append}
+use lib.ListN.{length, getD, take}
 use lib.Seq.{take-suc, take-all, take-add}
 use Rattle.octets.specs.Buffer.{Bytes, partAt}
 use Rattle.octets.specs.BigEndian.{bytesOf}
 use Rattle.octets.proofs.PartLaws.{part-add, bytes-at}
-use Rattle.store.specs.Layout.{Form, Sized, headerSize, entrySize, entriesSize, entryStart, answers, streamLength, streamStart, storeLength, streamOf}
-use Rattle.store.specs.Layout.{entryDay, entryOffset, entryLength}
+use Rattle.store.specs.Layout.{Form, Sized, headerSize, entrySize, entriesSize, entryStart, answers, streamLength, streamStart, storeLength}
 use Rattle.store.specs.Check.{storeNumber}
-use Rattle.store.specs.Append.{withAnswer}
-use Rattle.store.specs.Contents.{Stored, nothing, backToBack, offsetOf, entryBytes, entriesFrom, storeOf, storedAt, contents}
+use Rattle.store.specs.Contents.{Stored, nothing, backToBack, offsetOf, entryBytes, entriesFrom, storeOf, contents}
 use Rattle.store.proofs.FormLaws.{header-size, entry-size, entries-none, entries-suc, entry-below}
 use Rattle.store.proofs.StoreLaws.{unbroken}
-use Rattle.store.proofs.WrittenLaws.{back-append, entries-append}
-use Rattle.store.proofs.ContentsLaws.{contents-length, contents-at, contents-reads}
+use Rattle.store.proofs.WrittenLaws.{entries-append}
+use Rattle.store.proofs.ContentsLaws.{contents-length, contents-reads}
 
 three-parts : {a b c x y z : List ℕ} → a ≡ x → b ≡ y → c ≡ z → a ++ (b ++ c) ≡ x ++ (y ++ z)
 three-parts p q r = rw (p, q, r)
-
--- mark, count, stream length, entries; day, offset and length of the new one; stream and answer
-regroup : (m c t e d o l s a : List ℕ)
-    → m ++ (c ++ (t ++ (e ++ (d ++ (o ++ (l ++ (s ++ a))))))) ≡ m ++ (c ++ (t ++ ((e ++ ((d ++ (o ++ l)) ++ [])) ++ (s ++ a))))
-regroup m c t e d o l s a = simp (append-assoc, append-nil)
 
 module _ (f : Form) (sized : Sized f) (s : List ℕ) (z : storeNumber f s ≡ 0) (bytes : Bytes s) (marked : take (length (f .mark)) s ≡ f .mark) where
   abbrev gs : List Stored
@@ -86,14 +79,3 @@ module _ (f : Form) (sized : Sized f) (s : List ℕ) (z : storeNumber f s ≡ 0)
   own-bytes =
       let c = contents-length f s in
       rw (take-add (streamStart f s) t s, take-add (headerSize f) (entriesSize f n) s, header-is, entries-are, contents-reads f s z .stream, c, ← total) (simp append-assoc)
-
-  -- with an answer behind them
-  pub with-answer : (g : Stored) → withAnswer f (g .answer) (g .day) s ≡ storeOf f (contents f s ++ (g ∷ []))
-  unfolding withAnswer storeOf entriesFrom backToBack entryBytes
-  with-answer g =
-      let c = contents-length f s in
-      let back : backToBack (gs ++ (g ∷ [])) ≡ backToBack gs ++ g .answer = back-append gs (g ∷ []) ∙ ap (λ (x : List ℕ). backToBack gs ++ x) (append-nil (g .answer)) in
-      let many : length (gs ++ (g ∷ [])) ≡ n + 1 = length-append gs (g ∷ []) ∙ omega arith in
-      let long : length (backToBack gs ++ g .answer) ≡ t + length (g .answer) = length-append (backToBack gs) (g .answer) ∙ omega (arith, total) in
-      rw (marked, entries-are, contents-reads f s z .stream, many, back, long, entries-append f 0 gs (g ∷ []), zero-add, ← total)
-      (regroup (f .mark) (bytesOf w (n + 1)) (bytesOf w (t + length (g .answer))) (entriesFrom f 0 gs) (bytesOf 4 (g .day)) (bytesOf w t) (bytesOf w (length (g .answer))) (backToBack gs) (g .answer))

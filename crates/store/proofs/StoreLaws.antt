@@ -1,31 +1,30 @@
 -- What a caller learns from an unbroken store and from a lookup.
-use Prim.Native.Nat.{ℕ, zero, suc, _+_, _<_, _≤_}
+use Prim.Native.Nat.{ℕ, zero, _+_, _<_, _≤_}
 use mathlib.Core.Bool.{true, false, not}
 use mathlib.Core.List.{List, [], _∷_}
 use mathlib.Core.Logic.{_⊎_, inl}
 use mathlib.Core.Path.{_≡_, refl, sym, ap, _∙_}
 use native.Mathlib.Omega.{arith}
 use native.Mathlib.Nat.{add-zero}
-use native.Mathlib.Decide.{decLt}
-use lib.Dec.{eqb, ltb, leb}
+use lib.Dec.{eqb, leb}
 use lib.ListN.{length, getD, drop}
 use lib.Seq.{drop-cons}
-use borrow.Author.Tests.{lt-ltb, le-ltb, le-leb, eq-eqb, ne-eqb, ltb-true, ltb-false, leb-true, eqb-true, not-true, not-false}
+use borrow.Author.Tests.{lt-ltb, le-ltb, le-leb, eq-eqb, ne-eqb, ltb-true, ltb-false, leb-true, eqb-true, not-false}
 use Rattle.octets.specs.Search.{firstOf, noneOf}
-use Rattle.octets.proofs.Tests.{and-left, and-right, and-both, never}
+use Rattle.octets.proofs.Tests.{and-left, and-right, never}
 use Rattle.octets.proofs.BufferLaws.{length-part}
 use Rattle.octets.proofs.OrderLaws.{Both, unless-is, unless-fails, unless-either, or-zero, or-is}
 use Rattle.octets.proofs.PartLaws.{byte-in}
 use Rattle.octets.proofs.SearchLaws.{none-at, first-before, first-found}
 use Rattle.catalog.specs.Table.{listed}
-use Rattle.catalog.specs.Name.{sameAnswer, nameNumber}
+use Rattle.catalog.specs.Name.{nameNumber}
 use Rattle.catalog.proofs.NameLaws.{allowed, same-self}
 use Rattle.catalog.specs.declared.AnswerName.{AnswerName}
 use Rattle.store.specs.Layout.{Form, headerSize, answers, streamLength, storeLength, entryOffset, entryLength, answerStart, streamOf, answerAt, nameAt}
 use Rattle.store.specs.Check.{headerFits, countsFit, filledTo, placeRight, placesRight, answerRight, answersRight, repeats, namesDiffer, storeNumber}
 use Rattle.store.specs.Claims.{Missing}
 use Rattle.store.specs.Read.{position, isHeld, lookupNumber, lookupPlace, lookupPart, streamPlace, streamPart}
-use Rattle.store.proofs.PositionLaws.{hasName, position-named, position-first, position-missing, not-held}
+use Rattle.store.proofs.PositionLaws.{hasName, position-named, not-held}
 
 module _ (f : Form) where
   -- The five checks that number 0 stands for

@@ -1,36 +1,28 @@
--- The calls as functions of the list, and what appends leave.
-use Prim.Native.Nat.{ℕ, zero, suc, _+_, _<_, _≤_}
-use mathlib.Core.Bool.{true, false, not}
-use mathlib.Core.List.{List, [], _∷_, _++_, append-assoc, append-nil}
-use mathlib.Core.Path.{_≡_, refl, sym, ap, _∙_}
+-- The calls as functions of the list.
+use Prim.Native.Nat.{ℕ, suc, _+_, _<_, _≤_}
+use mathlib.Core.List.{List, [], _∷_, _++_, append-assoc}
+use mathlib.Core.Path.{_≡_, sym, ap, _∙_}
 use native.Mathlib.Omega.{arith}
 use native.Mathlib.Decide.{decLt}
-use lib.Dec.{ltb, leb}
-use lib.ListN.{length, getD, take, drop, length-append, List·getD-append, List·getD-eq-default}
+use lib.ListN.{length, getD, List·getD-eq-default}
 use lib.Seq.{take-append-seam}
-use borrow.Author.Tests.{lt-ltb, le-ltb, ltb-true, ltb-false, le-leb}
+use borrow.Author.Tests.{lt-ltb, le-ltb}
 use Rattle.octets.specs.Order.{unless}
-use Rattle.octets.specs.Buffer.{Bytes, partAt, front}
+use Rattle.octets.specs.Buffer.{Bytes, partAt}
 use Rattle.octets.proofs.SearchLaws.{first-same}
 use Rattle.octets.specs.BigEndian.{bytesOf}
-use Rattle.octets.proofs.PartLaws.{bytes-part, bytes-drop, bytes-append, bytes-number}
+use Rattle.octets.proofs.PartLaws.{bytes-append, bytes-number}
 use Rattle.catalog.specs.declared.AnswerName.{AnswerName}
-use Rattle.store.specs.declared.HeldAnswer.{HeldAnswer}
-use Rattle.store.specs.Layout.{Form, Sized, headerSize, entrySize, entriesSize, answers, streamLength, storeLength, answerAt, nameAt}
+use Rattle.store.specs.Layout.{Form, Sized, answers, answerAt, nameAt}
 use Rattle.store.specs.Check.{storeNumber}
 use Rattle.store.specs.Read.{position, isHeld, lookupNumber, lookupPart, streamPart, heldNumber, heldAnswer}
-use Rattle.store.specs.Append.{nameOf, answerNumber, roomNumber, appendNumber, withAnswer, appendOut}
 use Rattle.store.specs.Contents.{Stored, nameFor, nothing, backToBack, entryBytes, entriesFrom, storeOf, contents}
-use Rattle.store.specs.Contents.{placeOf, isAmong, answerNamed, startOf, appendNumberTo, Given, Listed, Holdable, OfForm}
-use Rattle.store.specs.Claims.{Appended, Appends, none, more, ReadsBack}
-use Rattle.store.proofs.PositionLaws.{hasName, position-missing}
-use Rattle.store.proofs.StoreLaws.{unbroken, lookup-zero, lookup-empty, found, stream-part}
-use Rattle.store.proofs.FormLaws.{entries-suc}
-use Rattle.store.proofs.AppendLaws.{Accepted, accepted}
-use Rattle.store.proofs.WrittenLaws.{Reads, written-reads, store-long}
-use Rattle.store.proofs.ContentsLaws.{reads-unbroken, reads-contents, contents-length, contents-at, contents-reads, contents-holdable, stored-name}
-use Rattle.store.proofs.ListLaws.{named, place-of, more-length, more-back, more-old, more-new, others-among, others-answer}
-use Rattle.store.proofs.OwnBytes.{own-bytes, with-answer}
+use Rattle.store.specs.Contents.{placeOf, isAmong, answerNamed, startOf, Holdable, OfForm}
+use Rattle.store.proofs.PositionLaws.{hasName}
+use Rattle.store.proofs.StoreLaws.{lookup-zero, lookup-empty, found, stream-part}
+use Rattle.store.proofs.WrittenLaws.{written-reads}
+use Rattle.store.proofs.ContentsLaws.{reads-unbroken, reads-contents, contents-length, contents-at, contents-reads, stored-name}
+use Rattle.store.proofs.ListLaws.{named}
 
 -- The store of a list
 
@@ -103,24 +95,7 @@ module _ (f : Form) (s : List ℕ) (z : storeNumber f s ≡ 0) where
       let l : answers f s ≤ k = omega (arith, contents-length f s) in
       rw (z, le-ltb k (answers f s) l)
 
-  -- the length of the store with an answer more
-  pub more-long : (g : Stored) → length (storeOf f (gs ++ (g ∷ []))) ≡ storeLength f s + entrySize f + length (g .answer)
-  more-long g =
-      let reads = contents-reads f s z in
-      let n : length (gs ++ (g ∷ [])) ≡ suc (length gs) = more-length gs g ∙ omega arith in
-      store-long f (gs ++ (g ∷ []))
-      ∙ rw (n, more-back gs g, reads .count)
-      (omega (arith, entries-suc f (length gs), length-append (backToBack gs) (g .answer), reads .total))
-
-  pub append-is : (g : Stored) → appendNumber f (g .answer) (g .day) s ≡ appendNumberTo f g (length s) gs
-  unfolding appendNumber roomNumber appendNumberTo
-  append-is g =
-      let reads = contents-reads f s z in
-      let t : length (backToBack (gs ++ (g ∷ []))) ≡ streamLength f s + length (g .answer) =
-      ap length (more-back gs g) ∙ length-append (backToBack gs) (g .answer) ∙ omega (arith, reads .total) in
-      rw (z, held-is (nameFor g), more-length gs g, contents-length f s, t, more-long g)
-
--- An accepted append
+-- The store of a list is of its form, with bytes behind it
 
 back-bytes : (gs : List Stored) → ((i : ℕ) → i < length gs → Bytes (getD gs i nothing .answer)) → Bytes (backToBack gs)
 unfolding backToBack
@@ -137,8 +112,7 @@ entries-bytes f o (g ∷ gs) i =
     (bytes-append (bytesOf (f .width) o) (bytesOf (f .width) m) (bytes-number (f .width) o) (bytes-number (f .width) m)))
     (entries-bytes f (o + m) gs) i
 
--- the store of a list is of its form, with bytes behind it
-written-form : (f : Form) (gs : List Stored) (rest : List ℕ) → Bytes (f .mark) → Bytes rest → Holdable f gs → OfForm f (storeOf f gs ++ rest)
+pub written-form : (f : Form) (gs : List Stored) (rest : List ℕ) → Bytes (f .mark) → Bytes rest → Holdable f gs → OfForm f (storeOf f gs ++ rest)
 unfolding storeOf
 written-form f gs rest mark behind fit =
     let w : ℕ = f .width in
@@ -151,130 +125,4 @@ written-form f gs rest mark behind fit =
       bytes = bytes-append (storeOf f gs) rest
           (bytes-append (f .mark) (bytesOf w n ++ (bytesOf w t ++ e)) mark (bytes-append (bytesOf w n) (bytesOf w t ++ e) (bytes-number w n) fields)) behind;
       marked = rw (append-assoc (f .mark) (bytesOf w n ++ (bytesOf w t ++ e)) rest) (take-append-seam (f .mark) _);
-    }
-
-pub append-out : (f : Form) → Sized f → (g : Stored) (s : List ℕ) → OfForm f s → appendNumber f (g .answer) (g .day) s ≡ 0
-    → appendOut f (g .answer) (g .day) s ≡ front (storeOf f (contents f s ++ (g ∷ []))) s
-unfolding appendOut
-append-out f sized g s formed taken =
-    let z = accepted f (g .answer) (g .day) s taken .unbroken in
-    rw (taken, with-answer f sized s z (formed .bytes) (formed .marked) g)
-
-module _ (f : Form) (sized : Sized f) (g : Stored) (s : List ℕ) (formed : OfForm f s) (given : Given g) (taken : appendNumber f (g .answer) (g .day) s ≡ 0) where
-  abbrev old : List Stored
-  old = contents f s
-
-  abbrev new : List Stored
-  new = contents f s ++ (g ∷ [])
-
-  abbrev after : List ℕ
-  after = appendOut f (g .answer) (g .day) s
-
-  ok : Accepted f (g .answer) (g .day) s
-  ok = accepted f (g .answer) (g .day) s taken
-
-  old-fit : Holdable f old
-  old-fit = contents-holdable f s (ok .unbroken) (formed .bytes)
-
-  -- the old names are not the new one
-  fresh : (i : ℕ) → i < length old → nameFor (getD old i nothing) ≡ nameFor g → ⊥
-  fresh i h e =
-      let l : i < answers f s = omega (arith, contents-length f s) in
-      position-missing f (nameFor g) s (ok .fresh) i l (stored-name f s (ok .unbroken) i l ∙ ap nameFor (sym (contents-at f s i l)) ∙ e)
-
-  new-fit : Holdable f new
-  new-fit =
-      let n = more-length old g in
-      let reads = contents-reads f s (ok .unbroken) in
-      record {
-        listed = λ i h.
-            elim (decLt i (length old)) as (λ _. Listed (getD new i nothing)) [
-              | yes l ↦ rw (more-old old g i l) (old-fit .listed i l)
-              | no l ↦ let e : i ≡ length old = omega arith in rw (e, more-new old g) (record { given = given; number = ok .listed })
-            ];
-        different = λ i j l h e.
-            let a : i < length old = omega arith in
-            elim (decLt j (length old)) as (λ _. ⊥) [
-              | yes b ↦ old-fit .different i j l b (rw (more-old old g i a, more-old old g j b) at e)
-              | no b ↦ let q : j ≡ length old = omega arith in fresh i a (rw (q, more-new old g, more-old old g i a) at e)
-            ];
-        count = omega (arith, ok .count, contents-length f s);
-        stream = rw (more-back old g) (omega (arith, length-append (backToBack old) (g .answer), reads .total, ok .stream));
-      }
-
-  abbrev rest : List ℕ
-  rest = drop (length (storeOf f new)) s
-
-  is : after ≡ storeOf f new ++ rest
-  unfolding front
-  is = append-out f sized g s formed taken
-
-  pub append-unbroken : storeNumber f after ≡ 0
-  append-unbroken = rw is (written-unbroken f sized new rest new-fit)
-
-  pub append-contents : contents f after ≡ new
-  append-contents = rw is (written-contents f sized new rest new-fit)
-
-  pub append-form : OfForm f after
-  append-form =
-      rw is (written-form f new rest (rw (← formed .marked) (bytes-part 0 (length (f .mark)) s (formed .bytes))) (bytes-drop (length (storeOf f new)) s (formed .bytes)) new-fit)
-
-  place-new : placeOf (nameFor g) new ≡ length old
-  place-new = rw (more-new old g) at (place-of f new new-fit (length old) (omega (arith, more-length old g)))
-
-  pub append-number : lookupNumber f (nameFor g) after ≡ 0
-  append-number =
-      let t : isAmong (nameFor g) new ≡ true = rw place-new (lt-ltb (length old) (length new) (omega (arith, more-length old g))) in
-      lookup-is f after append-unbroken (nameFor g) ∙ rw (append-contents, t)
-
-  pub append-part : lookupPart f (nameFor g) after ≡ g .answer
-  append-part =
-      lookup-bytes f after append-unbroken (nameFor g)
-      ∙ ap (answerNamed (nameFor g)) append-contents
-      ∙ ap (λ (k : ℕ). getD new k nothing .answer) place-new
-      ∙ ap (λ (x : Stored). x .answer) (more-new old g)
-
-  module _ (name : AnswerName) (other : name ≡ nameFor g → ⊥) where
-    pub others-number : lookupNumber f name after ≡ lookupNumber f name s
-    others-number =
-        lookup-is f after append-unbroken name
-        ∙ rw (append-contents, others-among old g name other) (sym (lookup-is f s (ok .unbroken) name))
-
-    pub others-part : lookupPart f name after ≡ lookupPart f name s
-    others-part =
-        lookup-bytes f after append-unbroken name
-        ∙ ap (answerNamed name) append-contents
-        ∙ others-answer old g name other
-        ∙ sym (lookup-bytes f s (ok .unbroken) name)
-
-  pub append-stream : streamPart f after ≡ streamPart f s ++ g .answer
-  append-stream =
-      stream-is f after append-unbroken
-      ∙ ap backToBack append-contents
-      ∙ more-back old g
-      ∙ ap (λ (x : List ℕ). x ++ g .answer) (sym (stream-is f s (ok .unbroken)))
-
-  pub appended : Appended f g s after
-  appended =
-      record {
-        unbroken = append-unbroken;
-        ofForm = append-form;
-        contents = append-contents;
-        number = append-number;
-        part = append-part;
-        othersNumber = others-number;
-        othersPart = others-part;
-        stream = append-stream;
-      }
-
--- any list of them
-pub appends : (f : Form) → Sized f → {gs : List Stored} {s r : List ℕ} → OfForm f s → storeNumber f s ≡ 0 → Appends f gs s r → ReadsBack f gs s r
-appends f sized {gs} {s} formed z none = record { unbroken = z; ofForm = formed; contents = sym (append-nil (contents f s)) }
-appends f sized formed z (more {g} {gs} {s} {r} taken given rest) =
-    let first = appended f sized g s formed given taken in
-    let later = appends f sized (first .ofForm) (first .unbroken) rest in
-    record {
-      unbroken = later .unbroken;
-      ofForm = later .ofForm;
-      contents = later .contents ∙ rw (first .contents) (append-assoc (contents f s) (g ∷ []) gs);
     }

@@ -4,16 +4,15 @@ use mathlib.Core.Bool.{true}
 use mathlib.Core.List.{List, [], _∷_, _++_, append-assoc, append-nil}
 use mathlib.Core.Path.{_≡_, refl, sym, ap, _∙_}
 use native.Mathlib.Omega.{arith}
-use native.Mathlib.Nat.{zero-add, add-zero}
-use lib.ListN.{length, getD, take, drop, length-append}
+use native.Mathlib.Nat.{zero-add}
+use lib.ListN.{length, getD, take, length-append}
 use lib.Seq.{take-append-seam, drop-append-add}
 use Rattle.octets.specs.Buffer.{partAt}
 use Rattle.octets.specs.BigEndian.{bytesOf, fieldWidth, numberAt}
 use Rattle.octets.proofs.NumberLaws.{length-bytes}
-use Rattle.octets.proofs.PartLaws.{part-left, part-in, part-here, number-in, number-here}
-use Rattle.octets.proofs.BufferLaws.{length-part}
-use Rattle.store.specs.Layout.{Form, Sized, headerSize, entrySize, entriesSize, entryStart, answers, streamLength, streamStart, storeLength, streamOf}
-use Rattle.store.specs.Layout.{entryDay, entryOffset, entryLength, answerStart, answerAt}
+use Rattle.octets.proofs.PartLaws.{part-here, number-in, number-here}
+use Rattle.store.specs.Layout.{Form, Sized, headerSize, entrySize, entriesSize, entryStart, answers, streamLength, storeLength, streamOf}
+use Rattle.store.specs.Layout.{entryDay, entryOffset, entryLength}
 use Rattle.store.specs.Contents.{Stored, nothing, backToBack, offsetOf, entryBytes, entriesFrom, storeOf, Holdable}
 use Rattle.store.proofs.FormLaws.{header-size, entry-size, entries-none, entries-suc, entry-below}
 

@@ -8,7 +8,6 @@ use Rattle.octets.specs.Order.{unless}
 use Rattle.octets.specs.Search.{anyOf, noneOf}
 use Rattle.octets.specs.Numbers.{done, storeBroken}
 use Rattle.catalog.specs.Name.{sameAnswer, nameNumber}
-use Rattle.catalog.specs.declared.AnswerName.{AnswerName}
 use Rattle.store.specs.Layout.{Form, headerSize, answers, streamLength, entryOffset, entryLength}
 use Rattle.store.specs.Layout.{storeLength, answerStart, nameAt}
 

@@ -1,14 +1,12 @@
 -- The store as a list: the answers that it holds, each with its day, in their order. The store of a list is header,
--- entries and stream; the contents of a store are the list read from it. Check.antt, Read.antt and Append.antt speak of
--- the bytes; Claims.antt says what they are of the list.
+-- entries and stream; the contents of a store are the list read from it. Check.antt and Read.antt speak of the
+-- bytes; Claims.antt says what they are of the list.
 use Prim.Native.Nat.{ℕ, _+_, _<_, _≤_}
-use mathlib.Core.Bool.{Bool, not}
+use mathlib.Core.Bool.{Bool}
 use mathlib.Core.List.{List, [], _∷_, _++_}
 use mathlib.Core.Path.{_≡_}
-use lib.Dec.{leb}
 use lib.ListN.{length, getD, take}
-use Rattle.octets.specs.Order.{unless, orElse}
-use Rattle.octets.specs.Numbers.{done, bufferShort, alreadyHeld, overBound}
+use Rattle.octets.specs.Numbers.{done}
 use Rattle.octets.specs.BigEndian.{bytesOf}
 use Rattle.octets.specs.Buffer.{Bytes}
 use Rattle.octets.specs.Search.{firstOf, anyOf}
@@ -16,7 +14,7 @@ use Rattle.octets.specs.Values.{upTo}
 use Rattle.catalog.specs.Name.{sameAnswer}
 use Rattle.catalog.specs.declared.AnswerName.{AnswerName}
 use Rattle.store.specs.Layout.{Form, answers, entryStart, entryDay, answerAt}
-use Rattle.store.specs.Append.{nameOf, answerNumber}
+use Rattle.store.specs.Answer.{nameOf, answerNumber}
 
 -- an answer, 76 and TREP first, and the day of its entry
 pub record Stored : Type 0 where
@@ -84,16 +82,6 @@ answerNamed name gs = getD gs (placeOf name gs) nothing .answer
 -- where the k-th answer begins in the store
 abbrev pub startOf : Form → ℕ → List Stored → ℕ
 startOf f k gs = entryStart f (length gs) + offsetOf k gs
-
--- "Appending: 5, 12, 7, 8, 4", behind 5; room is the buffer's length
-unfoldable pub appendNumberTo : Form → Stored → ℕ → List Stored → ℕ
-appendNumberTo f g room gs =
-    orElse (answerNumber (g .answer) (g .day))
-    (unless (not (isAmong (nameFor g) gs)) alreadyHeld
-    (unless (leb (length (gs ++ (g ∷ []))) (f .answersMost)) overBound
-    (unless (leb (length (backToBack (gs ++ (g ∷ [])))) (f .streamMost)) overBound
-    (unless (leb (length (storeOf f (gs ++ (g ∷ [])))) room) bufferShort
-    done))))
 
 -- Which lists and buffers
 

@@ -2,6 +2,6 @@
 pub mod Layout
 pub mod Check
 pub mod Read
-pub mod Append
+pub mod Answer
 pub mod Contents
 pub mod Claims

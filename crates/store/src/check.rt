@@ -5,6 +5,7 @@ use crate::STREAM_MOST;
 use crate::layout::HEADER;
 use catalog::AnswerName;
 use octets::numbers::STORE_BROKEN;
+use octets::wire::ANSWER;
 ghost use mathlib.Core.Path.{_≡_};
 ghost use Prim.Native.Nat.{_+_, _≤_};
 ghost use lib.ListN.{length};
@@ -62,7 +63,7 @@ fn answer_right(store: &[u8], i: usize) -> bool
     requires { ⌜ entryStart narrow i + entrySize narrow ≤ length (now store) ⌝ }
     ensures { λ r. ⌜ r ≡ answerRight narrow i (now (store .entry)) ⌝ }
 {
-    if octets::big_endian::byte_at(store, crate::layout::answer_start(store, i)) != 0x76 {
+    if octets::big_endian::byte_at(store, crate::layout::answer_start(store, i)) != ANSWER {
         return false;
     }
     catalog::name_number(crate::layout::name_at(store, i)) == 0

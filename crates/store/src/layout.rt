@@ -8,16 +8,16 @@ ghost use Rattle.catalog.specs.Name.{sameAnswer};
 ghost use Rattle.store.specs.Layout.{narrow, entrySize, entryStart, answers, streamLength, streamStart, entryDay, entryOffset, entryLength, answerStart, nameAt};
 
 // The width of count, stream length, offset and length.
-pub(crate) const FIELD: usize = 2;
+pub const FIELD: usize = 2;
 
 // Count and stream length.
-pub(crate) const HEADER: usize = 4;
+pub const HEADER: usize = 4;
 
 // Day, offset and length of one answer.
-pub(crate) const ENTRY: usize = 8;
+pub const ENTRY: usize = 8;
 
 // The width of a day.
-pub(crate) const DAY: usize = 4;
+pub const DAY: usize = 4;
 
 fn field(store: &[u8], at: usize) -> usize
     ensures { λ r. ⌜ (r ≡ numberAt 2 at (now (store .entry))) × (r < 4294967296) ⌝ }
@@ -25,20 +25,20 @@ fn field(store: &[u8], at: usize) -> usize
     octets::big_endian::number_at(store, at, FIELD) as usize
 }
 
-pub(crate) fn answers(store: &[u8]) -> usize
+pub fn answers(store: &[u8]) -> usize
     ensures { λ r. ⌜ (r ≡ answers narrow (now (store .entry))) × (r < 4294967296) ⌝ }
 {
     field(store, 0)
 }
 
-pub(crate) fn stream_length(store: &[u8]) -> usize
+pub fn stream_length(store: &[u8]) -> usize
     ensures { λ r. ⌜ (r ≡ streamLength narrow (now (store .entry))) × (r < 4294967296) ⌝ }
 {
     field(store, FIELD)
 }
 
 // Where the stream begins, behind header and entries.
-pub(crate) fn stream_start(store: &[u8]) -> usize
+pub fn stream_start(store: &[u8]) -> usize
     ensures { λ r. ⌜ (r ≡ streamStart narrow (now (store .entry))) × (r < 34359738372) ⌝ }
 {
     HEADER + ENTRY * answers(store)

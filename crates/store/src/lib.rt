@@ -1,7 +1,7 @@
-// The bench store (document 01, Bench store and stream; DDP_034): checking, reading and appending.
-pub mod append;
+// The bench store (document 01, Bench store and stream; DDP_034): its layout, its check, and reading it.
+pub mod answer;
 pub mod check;
-mod layout;
+pub mod layout;
 pub mod read;
 
 use catalog::AnswerName;

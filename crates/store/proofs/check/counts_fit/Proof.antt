@@ -7,7 +7,7 @@ use Rattle.store.proofs.check.counts_fit.Tie as tie
 
 pub counts-fit-spec : {M : Type 1} → statement M
 counts-fit-spec = tie.close (tie.spec
-    (λ c κs. search (needs, counts-many narrow, counts-is narrow))
-    (λ c. search (needs, counts-many narrow, counts-is narrow))
-    (λ c κs. search (needs, counts-many narrow, counts-is narrow))
-    (λ c. search (needs, counts-many narrow, counts-is narrow)))
+    (λ c κs. search needs)
+    (λ c. search (needs, counts-many narrow))
+    (λ c κs. search needs)
+    (λ c. search (needs, counts-is narrow)))

@@ -20,8 +20,8 @@ abbrev μ-loop : tie.MeasureT-loop
 
 pub places-right-spec : {M : Type 1} → statement M
 places-right-spec = tie.close (tie.spec Inv-loop μ-loop
-    (λ c κs. search (needs, entry-in narrow))
-    (λ c κs. search (needs, entry-in narrow))
+    (λ c κs. search needs)
+    (λ c κs. search needs)
     (λ c. (search needs, search needs, search (filled-none narrow), search search-start))
     (λ c κs. search (needs, entry-in narrow))
     (λ c κs. search (needs, entry-in narrow))

@@ -1,8 +1,8 @@
 -- Each return is the first check that fails.
 use Rattle.store.proofs.AnswerLaws.{answer-short, answer-other, answer-named}
 use borrow.Author.Needs.{needs}
-use Rattle.store.proofs.append.answer_number.Statement.{statement}
-use Rattle.store.proofs.append.answer_number.Tie as tie
+use Rattle.store.proofs.answer.answer_number.Statement.{statement}
+use Rattle.store.proofs.answer.answer_number.Tie as tie
 
 ruleset all = (needs, answer-short, answer-other, answer-named)
 

@@ -1,9 +1,10 @@
 -- Appending, from the tests of the code: the number, and the bytes written one behind the other.
 use Prim.Native.Nat.{ℕ, _+_, _-_, _<_, _≤_}
 use mathlib.Core.Bool.{true, false, not}
-use mathlib.Core.List.{List, [], _++_, append-assoc}
+use mathlib.Core.List.{List, _++_, append-assoc}
 use mathlib.Core.Path.{_≡_, refl, sym, ap, _∙_}
 use native.Mathlib.Omega.{arith}
+use native.Mathlib.Decide.{decLt}
 use lib.Dec.{ltb}
 use lib.ListN.{length, getD, take, drop, length-append, length-take, length-drop}
 use lib.Seq.{slice, take-all, take-take, take-append-le, drop-drop, take-at, drop-at, length-take-le, length-slice}
@@ -16,11 +17,16 @@ use Rattle.octets.proofs.CallLaws.{changed-by}
 use Rattle.octets.proofs.NumberLaws.{length-bytes}
 use Rattle.octets.proofs.OrderLaws.{unless-is, or-zero}
 use Rattle.octets.proofs.PartLaws.{part-left, part-take, number-put, numbers-put, front-kept}
 use Rattle.store.specs.Layout.{Form, Sized, headerSize, entrySize, entriesSize, answers, streamLength, streamStart, storeLength, streamOf}
 use Rattle.store.specs.Check.{storeNumber}
-use Rattle.store.specs.Read.{position, isHeld}
-use Rattle.store.specs.Append.{nameOf, answerNumber, roomNumber, appendNumber, withAnswer}
+use Rattle.store.specs.Read.{position, isHeld, lookupNumber, lookupPlace, lookupBoth}
+use Rattle.store.specs.declared.TwoPlaces.{TwoPlaces}
+use Rattle.store.proofs.StoreLaws.{lookup-zero}
+use Rattle.store.proofs.StoreLaws as stores
+use Rattle.catalog.specs.declared.AnswerName.{AnswerName}
+use Rattle.store.specs.Answer.{nameOf, answerNumber}
+use Rattle.append.specs.Append.{roomNumber, appendNumber, withAnswer}
 use Rattle.store.proofs.FormLaws.{header-size, entry-size}
 
 -- The room; m is the answer's length, n, t and b what the code read, e the size of an entry
 
@@ -43,31 +49,48 @@ module _ (f : Form) (m : ℕ) (s : List ℕ) (n : ℕ) (en : n ≡ answers f s) 
       unfolding roomNumber
       room-some h = rw (← eb, ← en, ← et, ← ee, le-leb (n + 1) (f .answersMost) few, le-leb (t + m) (f .streamMost) short, le-leb (b + t + e + m) (length s) h)
 
--- The number of an append; r, u and q are the numbers of its parts, i and n position and count
+-- The number of an append; found are the store's number and the place of the name, u and q the numbers of the answer and the room
 
-module _ (f : Form) (a : List ℕ) (day : ℕ) (s : List ℕ) (r : ℕ) (er : r ≡ storeNumber f s) where
-  pub append-broken : (r ≡ 0 → ⊥) → r ≡ appendNumber f a day s
+module _ (f : Form) (a : List ℕ) (day : ℕ) (s : List ℕ) (trep : ℕ) (other : AnswerName) (found : TwoPlaces) (et : trep ≡ getD a 1 0)
+    (ef : found ≡ lookupBoth f (record { trep = trep; day = day }) other s) where
+  store-part : found .number ≡ storeNumber f s
+  store-part = ap (λ (p : TwoPlaces). p .number) ef
+
+  held-part : found .first .number ≡ lookupNumber f (nameOf a day) s
+  unfolding lookupPlace
+  held-part = ap (λ (p : TwoPlaces). p .first .number) ef ∙ rw et
+
+  pub append-broken : (found .number ≡ 0 → ⊥) → found .number ≡ appendNumber f a day s
   unfolding appendNumber
-  append-broken h = rw (← er, ne-eqb r 0 h)
+  append-broken h = rw (← store-part, ne-eqb (found .number) 0 h)
 
-  module _ (zr : r ≡ 0) (u : ℕ) (eu : u ≡ answerNumber a day) where
+  module _ (whole : found .number ≡ 0) (u : ℕ) (eu : u ≡ answerNumber a day) where
+    zero : storeNumber f s ≡ 0
+    zero = sym store-part ∙ whole
+
     pub append-unlisted : (u ≡ 0 → ⊥) → u ≡ appendNumber f a day s
     unfolding appendNumber
-    append-unlisted h = rw (← er, zr, ← eu, ne-eqb u 0 h)
+    append-unlisted h = rw (zero, ← eu, ne-eqb u 0 h)
 
-    module _ (zu : u ≡ 0) (trep i n : ℕ) (et : trep ≡ getD a 1 0) (ei : i ≡ position f (record { trep = trep; day = day }) s) (en : n ≡ answers f s) where
-      here : i ≡ position f (nameOf a day) s
-      here = rw et at ei
-
-      pub append-held : i < n → 7 ≡ appendNumber f a day s
+    module _ (zu : u ≡ 0) where
+      pub append-held : found .first .number ≡ 0 → 7 ≡ appendNumber f a day s
       unfolding appendNumber
-      append-held h = rw (← er, zr, ← eu, zu, ← here, ← en, lt-ltb i n h)
+      append-held h =
+          let held = stores.found f (nameOf a day) s (sym held-part ∙ h) in
+          rw (zero, ← eu, zu, lt-ltb (position f (nameOf a day) s) (answers f s) (held .below))
 
-      pub append-room : (q : ℕ) → n ≤ i → q ≡ roomNumber f (length a) s → q ≡ appendNumber f a day s
+      pub append-room : (q : ℕ) → (found .first .number ≡ 0 → ⊥) → q ≡ roomNumber f (length a) s → q ≡ appendNumber f a day s
       unfolding appendNumber
       append-room q h e =
-          let none : isHeld f (nameOf a day) s ≡ false = rw (← here, ← en) (le-ltb i n h) in
-          rw (← er, zr, ← eu, zu, none) e
+          let none : isHeld f (nameOf a day) s ≡ false = not-found (λ l. h (held-part ∙ lookup-zero f (nameOf a day) s zero l)) in
+          rw (zero, ← eu, zu, none) e
+        where
+          not-found : (position f (nameOf a day) s < answers f s → ⊥) → isHeld f (nameOf a day) s ≡ false
+          not-found n =
+              elim (decLt (position f (nameOf a day) s) (answers f s)) as (λ _. isHeld f (nameOf a day) s ≡ false) [
+                | yes l ↦ absurd (n l)
+                | no l ↦ le-ltb (position f (nameOf a day) s) (answers f s) (omega arith)
+              ]
 
 -- What number 0 says of an append
 

@@ -1,72 +1,60 @@
-// Appending an answer to a store, in place.
-use crate::ANSWERS_MOST;
-use crate::STREAM_MOST;
-use crate::layout::DAY;
-use crate::layout::ENTRY;
-use crate::layout::FIELD;
+// Appending an answer to a bench store, in place (document 01, Bench store).
 use catalog::AnswerName;
+use catalog::NO_ANSWER;
 use octets::Written;
 use octets::numbers::ALREADY_HELD;
 use octets::numbers::BUFFER_SHORT;
-use octets::numbers::NOT_IN_TABLE;
 use octets::numbers::OVER_BOUND;
+use store::ANSWERS_MOST;
+use store::STREAM_MOST;
+use store::layout::DAY;
+use store::layout::ENTRY;
+use store::layout::FIELD;
 ghost use mathlib.Core.Path.{_≡_};
 ghost use mathlib.Core.List.{_++_};
 ghost use Prim.Native.Nat.{_+_, _≤_, _<_};
 ghost use lib.ListN.{length};
 ghost use Rattle.octets.specs.BigEndian.{bytesOf};
 ghost use Rattle.octets.specs.Buffer.{front, put};
 ghost use Rattle.store.specs.Layout.{narrow, headerSize, entrySize, answers, streamLength, storeLength};
-ghost use Rattle.store.specs.Append.{answerNumber, roomNumber, appendNumber, withAnswer, appendResult, appendOut};
-
-fn answer_number(answer: &[u8], day: u32) -> u8
-    ensures { λ r. ⌜ r ≡ answerNumber (now (answer .entry)) day ⌝ }
-{
-    if answer.len() < 2 {
-        return NOT_IN_TABLE;
-    }
-    if answer[0] != 0x76 {
-        return NOT_IN_TABLE;
-    }
-    catalog::name_number(AnswerName {
-        trep: answer[1],
-        day,
-    })
-}
+ghost use Rattle.append.specs.Append.{roomNumber, appendNumber, withAnswer, appendResult, appendOut};
 
 fn room_number(store: &[u8], answer: &[u8]) -> u8
     ensures { λ r. ⌜ r ≡ roomNumber narrow (length (now (answer .entry))) (now (store .entry)) ⌝ }
 {
     let len = answer.len();
-    let t = crate::layout::stream_length(store);
-    if ANSWERS_MOST < crate::layout::answers(store) + 1 {
+    let t = store::layout::stream_length(store);
+    if ANSWERS_MOST < store::layout::answers(store) + 1 {
         return OVER_BOUND;
     }
     if STREAM_MOST < t + len {
         return OVER_BOUND;
     }
-    if store.len() < crate::layout::stream_start(store) + t + ENTRY + len {
+    if store.len() < store::layout::stream_start(store) + t + ENTRY + len {
         return BUFFER_SHORT;
     }
     0
 }
 
+// The numbers in order; the store is checked once, for itself and for the search of the name.
 fn append_number(store: &[u8], answer: &[u8], day: u32) -> u8
     ensures { λ r. ⌜ r ≡ appendNumber narrow (now (answer .entry)) day (now (store .entry)) ⌝ }
 {
-    let broken = crate::check::check(store);
-    if broken != 0 {
-        return broken;
-    }
-    let unlisted = answer_number(answer, day);
-    if unlisted != 0 {
-        return unlisted;
-    }
     let name = AnswerName {
         trep: octets::big_endian::byte_at(answer, 1),
         day,
     };
-    if crate::read::position(store, name) < crate::layout::answers(store) {
+    let found = store::read::locate_both(store, name, NO_ANSWER);
+    let broken = found.number;
+    if broken != 0 {
+        return broken;
+    }
+    let unlisted = store::answer::answer_number(answer, day);
+    if unlisted != 0 {
+        return unlisted;
+    }
+    let held = found.first;
+    if held.number == 0 {
         return ALREADY_HELD;
     }
     room_number(store, answer)
@@ -96,10 +84,10 @@ fn put_last(store: &mut [u8], answer: &[u8], day: u32)
     requires { ⌜ storeLength narrow (now store) + entrySize narrow + length (now answer) ≤ length (now store) ⌝ }
     ensures { λ _. ⌜ now (store .exit) ≡ front (withAnswer narrow (now (answer .entry)) day (now (store .entry))) (now (store .entry)) ⌝ }
 {
-    let n = crate::layout::answers(store);
-    let t = crate::layout::stream_length(store);
+    let n = store::layout::answers(store);
+    let t = store::layout::stream_length(store);
     let len = answer.len();
-    let entry = crate::layout::stream_start(store);
+    let entry = store::layout::stream_start(store);
     let end = entry + t;
     octets::buffer::shift_up(store, entry, end, ENTRY);
     write_header(store, (n + 1) as u32, (t + len) as u32);
@@ -118,7 +106,7 @@ pub fn append(store: &mut [u8], answer: &[u8], day: u32) -> Written
     if number != 0 {
         return Written { number, len: 0 };
     }
-    let old = crate::layout::stream_start(store) + crate::layout::stream_length(store);
+    let old = store::layout::stream_start(store) + store::layout::stream_length(store);
     put_last(store, answer, day);
     Written {
         number: 0,

@@ -1,11 +1,11 @@
 -- Refused by the number, or the new store in front.
 use Rattle.octets.proofs.CallLaws.{written-is, kept-by, changed-by, zero-by}
-use Rattle.store.specs.Append.{appendResult, appendOut}
-use Rattle.store.proofs.AppendLaws.{accepted-count, accepted-stream, accepted-room, accepted-length}
+use Rattle.append.specs.Append.{appendResult, appendOut}
+use Rattle.append.proofs.AppendLaws.{accepted-count, accepted-stream, accepted-room, accepted-length}
 use Rattle.store.specs.Layout.{narrow, headerSize, entrySize, entriesSize}
 use borrow.Author.Needs.{needs}
-use Rattle.store.proofs.append.append.Statement.{statement}
-use Rattle.store.proofs.append.append.Tie as tie
+use Rattle.append.proofs.append.Statement.{statement}
+use Rattle.append.proofs.append.Tie as tie
 
 ruleset all = (needs, written-is, kept-by, changed-by, zero-by, accepted-length)
 

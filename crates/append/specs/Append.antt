@@ -1,30 +1,21 @@
--- "Appending puts the answer last", in place: the entries grow by one, so the stream moves up; bytes behind the new store stay.
+-- "Appending puts the answer last", in place: the entries grow by one, so the stream moves up; bytes behind the new
+-- store stay.
 use Prim.Native.Nat.{ℕ, _+_}
 use mathlib.Core.Bool.{not}
-use mathlib.Core.List.{List, _++_}
-use lib.ListN.{length, getD, take}
-use lib.Dec.{eqb, leb}
+use mathlib.Core.List.{List, [], _∷_, _++_}
+use lib.ListN.{length, take}
+use lib.Dec.{leb}
 use Rattle.octets.specs.Order.{unless, orElse}
-use Rattle.octets.specs.Numbers.{done, bufferShort, alreadyHeld, overBound, notInTable, changedBy, writtenBy}
+use Rattle.octets.specs.Numbers.{done, bufferShort, alreadyHeld, overBound, changedBy, writtenBy}
 use Rattle.octets.specs.BigEndian.{bytesOf}
 use Rattle.octets.specs.Buffer.{partAt, front}
 use Rattle.octets.specs.declared.Written.{Written}
-use Rattle.catalog.specs.Name.{nameNumber}
-use Rattle.catalog.specs.declared.AnswerName.{AnswerName}
-use Rattle.store.specs.Layout.{Form, headerSize, entrySize, entriesSize, answers, streamLength, storeLength, streamOf}
+use Rattle.store.specs.Layout.{Form, headerSize, entrySize, entriesSize}
+use Rattle.store.specs.Layout.{answers, streamLength, storeLength, streamOf}
 use Rattle.store.specs.Check.{storeNumber}
 use Rattle.store.specs.Read.{isHeld}
-
--- the name of an answer to append: its second byte and the day given
-abbrev pub nameOf : List ℕ → ℕ → AnswerName
-nameOf answer day = record { trep = getD answer 1 0; day = day }
-
--- "12: .. or an answer to append that does not begin 76 and a listed TREP"
-unfoldable pub answerNumber : List ℕ → ℕ → ℕ
-answerNumber answer day =
-    unless (leb 2 (length answer)) notInTable
-    (unless (eqb (getD answer 0 0) 0x76) notInTable
-    (nameNumber (nameOf answer day)))
+use Rattle.store.specs.Answer.{nameOf, answerNumber}
+use Rattle.store.specs.Contents.{Stored, nameFor, backToBack, storeOf, isAmong}
 
 module _ (f : Form) where
   -- "8: store would pass 64 answers or 60,000 stream bytes", "4: .. store buffer too short"
@@ -61,3 +52,13 @@ module _ (f : Form) where
 
   unfoldable pub appendOut : List ℕ → ℕ → List ℕ → List ℕ
   appendOut answer day s = changedBy (appendNumber answer day s) (front (withAnswer answer day s) s) s
+
+-- "Appending: 5, 12, 7, 8, 4", behind 5; room is the buffer's length
+unfoldable pub appendNumberTo : Form → Stored → ℕ → List Stored → ℕ
+appendNumberTo f g room gs =
+    orElse (answerNumber (g .answer) (g .day))
+    (unless (not (isAmong (nameFor g) gs)) alreadyHeld
+    (unless (leb (length (gs ++ (g ∷ []))) (f .answersMost)) overBound
+    (unless (leb (length (backToBack (gs ++ (g ∷ [])))) (f .streamMost)) overBound
+    (unless (leb (length (storeOf f (gs ++ (g ∷ [])))) room) bufferShort
+    done))))

@@ -1,9 +1,9 @@
 -- The stream moved up, the header, the entry and the answer make the new store.
-use Rattle.store.proofs.AppendLaws.{last-is}
+use Rattle.append.proofs.AppendLaws.{last-is}
 use Rattle.store.specs.Layout.{headerSize, entrySize, entriesSize}
 use borrow.Author.Needs.{needs}
-use Rattle.store.proofs.append.put_last.Statement.{statement}
-use Rattle.store.proofs.append.put_last.Tie as tie
+use Rattle.append.proofs.put_last.Statement.{statement}
+use Rattle.append.proofs.put_last.Tie as tie
 
 ruleset all = (needs, last-is)
 

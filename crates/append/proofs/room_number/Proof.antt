@@ -1,9 +1,9 @@
 -- The bounds, then the buffer.
-use Rattle.store.proofs.AppendLaws.{room-count, room-stream, room-short, room-some}
+use Rattle.append.proofs.AppendLaws.{room-count, room-stream, room-short, room-some}
 use Rattle.store.specs.Layout.{headerSize, entrySize, entriesSize}
 use borrow.Author.Needs.{needs}
-use Rattle.store.proofs.append.room_number.Statement.{statement}
-use Rattle.store.proofs.append.room_number.Tie as tie
+use Rattle.append.proofs.room_number.Statement.{statement}
+use Rattle.append.proofs.room_number.Tie as tie
 
 ruleset all = (needs, room-count, room-stream, room-short, room-some)
 

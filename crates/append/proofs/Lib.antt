@@ -1,0 +1,6 @@
+-- Laws of appending. Callers start at Theorems.
+pub mod AppendLaws
+pub mod Theorems
+pub mod Refusals
+pub mod Bounds
+pub mod Claims

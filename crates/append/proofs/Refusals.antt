@@ -1,0 +1,145 @@
+-- What the numbers of an append say, each way: an append that could be accepted is never refused.
+use Prim.Native.Nat.{ℕ, _+_, _<_, _≤_}
+use mathlib.Core.Bool.{Bool, true, false, not}
+use mathlib.Core.List.{List}
+use mathlib.Core.Logic.{_↔_, _⊎_, inl, inr, ⊎-elim}
+use mathlib.Core.Path.{_≡_, refl}
+use native.Mathlib.Omega.{arith}
+use lib.Dec.{eqb, leb}
+use lib.ListN.{length}
+use borrow.Author.Tests.{lt-ltb, le-ltb, le-leb, lt-leb, ltb-true, ltb-false, leb-true, leb-false, eqb-false, not-true, not-false}
+use Rattle.octets.specs.Order.{unless}
+use Rattle.octets.proofs.OrderLaws.{Both, unless-is, unless-fails, or-is}
+use Rattle.store.specs.Layout.{Form, entrySize, answers, streamLength, storeLength}
+use Rattle.store.specs.Check.{storeNumber}
+use Rattle.store.specs.Read.{position, isHeld}
+use Rattle.store.specs.Answer.{nameOf, answerNumber}
+use Rattle.store.specs.Claims.{Broken, Unlisted, HeldAs}
+use Rattle.store.proofs.PositionLaws.{held-position, position-held, missing-position, position-missing}
+use Rattle.store.proofs.StoreLaws.{store-either}
+use Rattle.store.proofs.Refusals.{unless-before, or-first, five-first, answer-either, unlisted-number, number-unlisted}
+use Rattle.append.specs.Append.{roomNumber, appendNumber}
+use Rattle.append.specs.Claims.{Judged, Fresh, Bounded}
+use Rattle.append.proofs.AppendLaws.{accepted}
+
+module _ (f : Form) (a : List ℕ) (day : ℕ) (s : List ℕ) where
+  -- the search ends at a held answer
+  abbrev found : Bool
+  found = isHeld f (nameOf a day) s
+
+  judged-is : (k : ℕ) → eqb 5 k ≡ false → eqb 12 k ≡ false → appendNumber f a day s ≡ k
+      → Both (Judged f a day s) (unless (not found) 7 (roomNumber f (length a) s) ≡ k)
+  unfolding appendNumber
+  judged-is k five twelve e =
+      let p = or-is (storeNumber f s) 5 _ k (store-either f s) refl five e in
+      let q = or-is (answerNumber a day) 12 _ k (answer-either a day) refl twelve (p .rest) in
+      record { first = record { unbroken = p .first; listed = q .first }; rest = q .rest }
+
+  fresh-is : (k : ℕ) → eqb 5 k ≡ false → eqb 12 k ≡ false → eqb 7 k ≡ false → appendNumber f a day s ≡ k
+      → Both (Fresh f a day s) (roomNumber f (length a) s ≡ k)
+  fresh-is k five twelve seven e =
+      let j = judged-is k five twelve e in
+      let t = unless-is (not found) 7 _ k seven (j .rest) in
+      let l = ltb-false (position f (nameOf a day) s) (answers f s) (not-true _ (t .first)) in
+      record { first = record { judged = j .first; missing = position-missing f (nameOf a day) s l }; rest = t .rest }
+
+  room-is : Fresh f a day s → (k : ℕ) → roomNumber f (length a) s ≡ k → appendNumber f a day s ≡ k
+  unfolding appendNumber
+  room-is known k e =
+      let none : found ≡ false = le-ltb _ _ (missing-position f (nameOf a day) s (known .missing)) in
+      rw (known .judged .unbroken, known .judged .listed, none) e
+
+  -- the room gives 8, 4 or 0
+  room-not : (k : ℕ) → eqb 8 k ≡ false → eqb 4 k ≡ false → eqb 0 k ≡ false → roomNumber f (length a) s ≡ k → ⊥
+  unfolding roomNumber
+  room-not k eight four zero e =
+      let n = unless-is (leb (answers f s + 1) (f .answersMost)) 8 _ k eight e in
+      let t = unless-is (leb (streamLength f s + length a) (f .streamMost)) 8 _ k eight (n .rest) in
+      eqb-false 0 k zero (unless-is (leb (storeLength f s + entrySize f + length a) (length s)) 4 0 k four (t .rest) .rest)
+
+  -- what is behind 12 gives 7, 8, 4 or 0
+  behind-not : (k : ℕ) → eqb 7 k ≡ false → eqb 8 k ≡ false → eqb 4 k ≡ false → eqb 0 k ≡ false
+      → unless (not found) 7 (roomNumber f (length a) s) ≡ k → ⊥
+  behind-not k seven eight four zero e = room-not k eight four zero (unless-is (not found) 7 _ k seven e .rest)
+
+  -- 5 exactly where the store is broken
+  pub append-five : (appendNumber f a day s ≡ 5) ↔ Broken f s
+  unfolding appendNumber
+  append-five = five-first f s _ (λ e. behind-not 5 refl refl refl refl (or-is (answerNumber a day) 12 _ 5 (answer-either a day) refl refl e .rest))
+
+  -- 12 exactly where it is unbroken and the answer is not listed
+  pub append-twelve : (appendNumber f a day s ≡ 12) ↔ ((storeNumber f s ≡ 0) × Unlisted a day)
+  unfolding appendNumber
+  append-twelve =
+      let known = or-first (answerNumber a day) 12 _ (answer-either a day) refl (behind-not 12 refl refl refl refl) in (
+        (λ e. let p = or-is (storeNumber f s) 5 _ 12 (store-either f s) refl refl e in (p .first, number-unlisted a day (known .0 (p .rest)))),
+        (λ u. rw (u .0) (known .1 (unlisted-number a day (u .1)))),
+      )
+
+  -- 7 exactly where a held answer has that name
+  pub already-held : Judged f a day s → HeldAs f (nameOf a day) s → appendNumber f a day s ≡ 7
+  unfolding appendNumber
+  already-held j h = rw (j .unbroken, j .listed, lt-ltb (position f (nameOf a day) s) (answers f s) (held-position f (nameOf a day) s h))
+
+  pub already-held-only : appendNumber f a day s ≡ 7 → Judged f a day s × HeldAs f (nameOf a day) s
+  already-held-only e =
+      let j = judged-is 7 refl refl e in
+      let known = unless-fails (not found) 7 _ (room-not 7 refl refl refl) (j .rest) in
+      (j .first, position-held f (nameOf a day) s (ltb-true _ _ (not-false _ known)))
+
+  -- 8 exactly where the store would pass the form's bounds
+  pub over-bound : Fresh f a day s → (f .answersMost < answers f s + 1) ⊎ (f .streamMost < streamLength f s + length a) → appendNumber f a day s ≡ 8
+  unfolding roomNumber
+  over-bound known h =
+      let count : f .answersMost < answers f s + 1 → roomNumber f (length a) s ≡ 8 = λ l. rw (lt-leb (answers f s + 1) (f .answersMost) l) in
+      let stream : f .streamMost < streamLength f s + length a → roomNumber f (length a) s ≡ 8 =
+      λ l. unless-before (leb (answers f s + 1) (f .answersMost)) 8 _ (rw (lt-leb (streamLength f s + length a) (f .streamMost) l)) in
+      room-is known 8 (⊎-elim count stream h)
+
+  pub over-bound-only : appendNumber f a day s ≡ 8 → Fresh f a day s × ((f .answersMost < answers f s + 1) ⊎ (f .streamMost < streamLength f s + length a))
+  unfolding roomNumber
+  over-bound-only e =
+      let known = fresh-is 8 refl refl refl e in
+      let room : Bool = leb (storeLength f s + entrySize f + length a) (length s) in
+      (known .first, go (leb (answers f s + 1) (f .answersMost)) (leb (streamLength f s + length a) (f .streamMost)) room refl refl (known .rest))
+    where
+      go : (b c d : Bool) → leb (answers f s + 1) (f .answersMost) ≡ b → leb (streamLength f s + length a) (f .streamMost) ≡ c
+          → _≡_ {A = ℕ} (unless b 8 (unless c 8 (unless d 4 0))) 8
+          → (f .answersMost < answers f s + 1) ⊎ (f .streamMost < streamLength f s + length a)
+      go false c d p q r = inl (leb-false _ _ p)
+      go true false d p q r = inr (leb-false _ _ q)
+      go true true true p q r = absurd (omega arith)
+      go true true false p q r = absurd (omega arith)
+
+  -- 4 exactly where the buffer is shorter than the new store
+  pub buffer-short : Bounded f a day s → length s < storeLength f s + entrySize f + length a → appendNumber f a day s ≡ 4
+  unfolding roomNumber
+  buffer-short b h =
+      let count = le-leb (answers f s + 1) (f .answersMost) (b .count) in
+      let stream = le-leb (streamLength f s + length a) (f .streamMost) (b .stream) in
+      room-is (b .fresh) 4 (rw (count, stream, lt-leb (storeLength f s + entrySize f + length a) (length s) h))
+
+  pub buffer-short-only : appendNumber f a day s ≡ 4 → Bounded f a day s × (length s < storeLength f s + entrySize f + length a)
+  unfolding roomNumber
+  buffer-short-only e =
+      let known = fresh-is 4 refl refl refl e in
+      let n = unless-is (leb (answers f s + 1) (f .answersMost)) 8 _ 4 refl (known .rest) in
+      let t = unless-is (leb (streamLength f s + length a) (f .streamMost)) 8 _ 4 refl (n .rest) in (
+        record { fresh = known .first; count = leb-true _ _ (n .first); stream = leb-true _ _ (t .first) },
+        leb-false _ _ (unless-fails (leb (storeLength f s + entrySize f + length a) (length s)) 4 0 (λ z. omega arith) (t .rest)),
+      )
+
+  -- 0 exactly where none of these holds
+  pub append-taken : Bounded f a day s → storeLength f s + entrySize f + length a ≤ length s → appendNumber f a day s ≡ 0
+  unfolding roomNumber
+  append-taken b h =
+      let count = le-leb (answers f s + 1) (f .answersMost) (b .count) in
+      let stream = le-leb (streamLength f s + length a) (f .streamMost) (b .stream) in
+      room-is (b .fresh) 0 (rw (count, stream, le-leb (storeLength f s + entrySize f + length a) (length s) h))
+
+  pub append-taken-only : appendNumber f a day s ≡ 0 → Bounded f a day s × (storeLength f s + entrySize f + length a ≤ length s)
+  append-taken-only e =
+      let ok = accepted f a day s e in
+      let judged : Judged f a day s = record { unbroken = ok .unbroken; listed = ok .listed } in
+      let fresh : Fresh f a day s = record { judged = judged; missing = position-missing f (nameOf a day) s (ok .fresh) } in
+      (record { fresh = fresh; count = ok .count; stream = ok .stream }, ok .room)

@@ -1,0 +1,3 @@
+-- Document 01, Bench store (house): "Appending puts the answer last".
+pub mod Append
+pub mod Claims
