@@ -169,7 +169,8 @@ regroup : (k c t e d o l s a : List ℕ) → ((((k ++ (c ++ t)) ++ e) ++ (d ++ (
 regroup k c t e d o l s a = simp append-assoc
 
 -- The whole append: the stream moved up, the header, the entry, the answer
-module _ (f : Form) (a : List ℕ) (day : ℕ) (s : List ℕ) (n t b k : ℕ) (en : n ≡ answers f s) (et : t ≡ streamLength f s) (eb : b ≡ streamStart f s) (ek : k ≡ entrySize f)
+module _ (f : Form) (a : List ℕ) (day : ℕ) (s : List ℕ) (n t b k : ℕ) (en : n ≡ answers f s) (et : t ≡ streamLength f s) (eb : b ≡ streamStart f s)
+    (ek : k ≡ entrySize f)
     (room : storeLength f s + entrySize f + length a ≤ length s) (o₁ o₂ o₃ : List ℕ) (e₁ : o₁ ≡ shifted b (b + t) k s)
     (e₂ : o₂ ≡ put (length (f .mark)) (bytesOf (f .width) (n + 1) ++ bytesOf (f .width) (t + length a)) o₁)
     (e₃ : o₃ ≡ put b (bytesOf 4 day ++ (bytesOf (f .width) t ++ bytesOf (f .width) (length a))) o₂) where
@@ -266,13 +267,15 @@ module _ (f : Form) (a : List ℕ) (day : ℕ) (s : List ℕ) (n t b k : ℕ) (e
   before-long =
       let h = fits in
       let q = start in
-      length-append header (partAt (mark + (v + v)) (entriesSize f n) s) ∙ omega (arith, header-long, length-part s (mark + (v + v)) (entriesSize f n) (omega arith))
+      length-append header (partAt (mark + (v + v)) (entriesSize f n) s)
+      ∙ omega (arith, header-long, length-part s (mark + (v + v)) (entriesSize f n) (omega arith))
 
   answer-long : length beforeAnswer ≡ b + t + k
   unfolding beforeAnswer
   answer-long =
       let h = fits in
-      length-append (beforeEntry ++ entry) (partAt b t s) ∙ omega (arith, length-append beforeEntry entry, before-long, long-entry, length-part s b t (omega arith))
+      length-append (beforeEntry ++ entry) (partAt b t s)
+      ∙ omega (arith, length-append beforeEntry entry, before-long, long-entry, length-part s b t (omega arith))
 
   put-is : put mark fields o₁ ≡ front header o₁
   unfolding put front header

@@ -83,7 +83,8 @@ append-out f sized g s formed taken =
     let z = accepted f (g .answer) (g .day) s taken .unbroken in
     rw (taken, with-answer f sized s z formed g)
 
-module _ (f : Form) (sized : Sized f) (g : Stored) (s : List ℕ) (formed : OfForm f s) (given : Given g) (taken : appendNumber f (g .answer) (g .day) s ≡ 0) where
+module _ (f : Form) (sized : Sized f) (g : Stored) (s : List ℕ) (formed : OfForm f s) (given : Given g)
+    (taken : appendNumber f (g .answer) (g .day) s ≡ 0) where
   abbrev old : List Stored
   old = contents f s
 

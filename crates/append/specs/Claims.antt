@@ -1,5 +1,7 @@
--- What is claimed of appending (document 01, Bench store; House numbers): each number "Given exactly when" its rule says, the
--- append as one of the list, what it leaves, and what any list of appends leaves. For every form whose bounds fit its fields;
+-- What is claimed of appending (document 01, Bench store; House numbers): each number "Given exactly when" its rule
+-- says, the
+-- append as one of the list, what it leaves, and what any list of appends leaves. For every form whose bounds fit its
+-- fields;
 -- proofs/Claims.antt proves it.
 use Prim.Native.Nat.{ℕ, _+_, _<_, _≤_}
 use mathlib.Core.List.{List, [], _∷_, _++_}
@@ -65,7 +67,8 @@ module _ (f : Form) where
 
 module _ (f : Form) where
   pub record ListClaims : Type 0 where
-    -- an append to an unbroken store is one to the list, "Appending puts the answer last": the store of the list with the
+    -- an append to an unbroken store is one to the list, "Appending puts the answer last": the store of the list with
+    -- the
     -- answer behind it, in the front of the buffer
     pub appendRefusal : (g : Stored) (s : List ℕ) → storeNumber f s ≡ done
         → appendNumber f (g .answer) (g .day) s ≡ appendNumberTo f g (length s) (contents f s)

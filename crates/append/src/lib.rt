@@ -62,7 +62,8 @@ fn append_number(store: &[u8], answer: &[u8], day: u32) -> u8
 
 fn write_header(store: &mut [u8], count: u32, stream: u32)
     requires { ⌜ headerSize narrow ≤ length (now store) ⌝ }
-    ensures { λ _. ⌜ now (store .exit) ≡ put (length (narrow .mark)) (bytesOf (narrow .width) count ++ bytesOf (narrow .width) stream) (now (store .entry)) ⌝ }
+    ensures { λ _. ⌜ now (store .exit)
+        ≡ put (length (narrow .mark)) (bytesOf (narrow .width) count ++ bytesOf (narrow .width) stream) (now (store .entry)) ⌝ }
 {
     octets::big_endian::write_number(store, 0, FIELD, count);
     octets::big_endian::write_number(store, FIELD, FIELD, stream);
@@ -70,7 +71,8 @@ fn write_header(store: &mut [u8], count: u32, stream: u32)
 
 fn write_entry(store: &mut [u8], at: usize, day: u32, offset: u32, len: u32)
     requires { ⌜ at + entrySize narrow ≤ length (now store) ⌝ }
-    ensures { λ _. ⌜ now (store .exit) ≡ put at (bytesOf 4 day ++ (bytesOf (narrow .width) offset ++ bytesOf (narrow .width) len)) (now (store .entry)) ⌝ }
+    ensures { λ _. ⌜ now (store .exit)
+        ≡ put at (bytesOf 4 day ++ (bytesOf (narrow .width) offset ++ bytesOf (narrow .width) len)) (now (store .entry)) ⌝ }
 {
     octets::big_endian::write_number(store, at, DAY, day);
     octets::big_endian::write_number(store, at + DAY, FIELD, offset);
@@ -82,7 +84,8 @@ fn put_last(store: &mut [u8], answer: &[u8], day: u32)
     requires { ⌜ answers narrow (now store) + 1 ≤ narrow .answersMost ⌝ }
     requires { ⌜ streamLength narrow (now store) + length (now answer) ≤ narrow .streamMost ⌝ }
     requires { ⌜ storeLength narrow (now store) + entrySize narrow + length (now answer) ≤ length (now store) ⌝ }
-    ensures { λ _. ⌜ now (store .exit) ≡ front (withAnswer narrow (now (answer .entry)) day (now (store .entry))) (now (store .entry)) ⌝ }
+    ensures { λ _. ⌜ now (store .exit)
+        ≡ front (withAnswer narrow (now (answer .entry)) day (now (store .entry))) (now (store .entry)) ⌝ }
 {
     let n = store::layout::answers(store);
     let t = store::layout::stream_length(store);
@@ -96,7 +99,8 @@ fn put_last(store: &mut [u8], answer: &[u8], day: u32)
     octets::buffer::copy_in(&mut store[last..], answer);
 }
 
-// Puts the answer, 76 and TREP included, last in the store, under its TREP and this day. `len` is the store's new length.
+// Puts the answer, 76 and TREP included, last in the store, under its TREP and this day. `len` is the store's new
+// length.
 // Refused by 5, 12, 7, 8 and 4, in this order; then the buffer is as it was.
 pub fn append(store: &mut [u8], answer: &[u8], day: u32) -> Written
     ensures { λ r. ⌜ r ≡ appendResult narrow (now (answer .entry)) day (now (store .entry)) ⌝ }

@@ -33,7 +33,8 @@ every-map f [] t = tt
 every-map f (x ∷ xs) t = (f x (t .0), every-map f xs (t .1))
 
 -- The strings on the way to the tool
-module _ (a : Addresses) (g : Premises) (es : List (Event (cableEnds a))) (o : AllAllowed (cableEnds a) (transfer a g) es (start (cableEnds a) (transfer a g) .system)) where
+module _ (a : Addresses) (g : Premises) (es : List (Event (cableEnds a)))
+    (o : AllAllowed (cableEnds a) (transfer a g) es (start (cableEnds a) (transfer a g) .system)) where
   abbrev after : Run (cableEnds a)
   after = run (cableEnds a) (transfer a g) es (start (cableEnds a) (transfer a g))
 
@@ -41,8 +42,10 @@ module _ (a : Addresses) (g : Premises) (es : List (Event (cableEnds a))) (o : A
   pub none-above : Every (Within (unnumbered (cableEnds a) (transfer a g)) (transfer a g .frame) 1 (suc (after .book .taken))) (after .system .toTool)
   none-above = after-allowed (cableEnds a) (transfer a g) (facts a g) es o .noneAbove
 
-  -- The unit never answers these requests by 12, 22 or FA: all that it replies joins this queue, and what passes the frame rules there begins with 76, not with 7F.
-  begins-76 : (x : List ℕ) → Within (unnumbered (cableEnds a) (transfer a g)) (transfer a g .frame) 1 (suc (after .book .taken)) x → refused a toolEnd x ≡ false → getD (dataOf a ends.Tool x) 0 0 ≡ 0x76
+  -- The unit never answers these requests by 12, 22 or FA: all that it replies joins this queue, and what passes the frame rules there begins with 76, not with
+  -- 7F.
+  begins-76 : (x : List ℕ) → Within (unnumbered (cableEnds a) (transfer a g)) (transfer a g .frame) 1 (suc (after .book .taken)) x → refused a toolEnd x ≡ false
+      → getD (dataOf a ends.Tool x) 0 0 ≡ 0x76
   unfolding subField
   begins-76 x (noNumber r) i = never (cc (rw i at r))
   begins-76 x (isNumber k l h) i = rw (sub-reads-back a (g .name .trep) (suc k) (answerData g))

@@ -173,7 +173,8 @@ module _ (g : Premises) where
         differs (transfer a g .frame (suc k)) (transfer a g .frame e) (λ z.
         let s = splits (omega arith) in
         let n = frames-most in
-        let w : suc k ≡ e = sym (number-is s (suc k) (omega arith)) ∙ ap (λ (x : List ℕ). numberAt 2 2 (dataOf a ends.Tool x)) z ∙ number-is s e (omega arith) in
+        let w : suc k ≡ e =
+        sym (number-is s (suc k) (omega arith)) ∙ ap (λ (x : List ℕ). numberAt 2 2 (dataOf a ends.Tool x)) z ∙ number-is s e (omega arith) in
         omega arith)
 
     pub same-refused : (x : List ℕ) (k : ℕ) → refused a toolEnd x ≡ true → sameBytes x (transfer a g .frame k) ≡ false

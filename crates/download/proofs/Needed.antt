@@ -1,4 +1,5 @@
--- Each premise is needed: the shortest list of events that breaks the claim where it is left out. Computed at the lab's addresses; the answer is 02 02 under TREP 00, one frame.
+-- Each premise is needed: the shortest list of events that breaks the claim where it is left out. Computed at the lab's addresses; the answer is 02 02 under
+-- TREP 00, one frame.
 -- Left aside is the bound of the day, which is its type in the code.
 use Prim.Native.Nat.{ℕ}
 use mathlib.Core.Bool.{false}

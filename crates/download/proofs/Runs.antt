@@ -12,10 +12,12 @@ use Rattle.store.specs.Check.{headerFits, countsFit, filledTo, placeRight, plac
 use Rattle.store.specs.Read.{lookupNumber, lookupPlace, lookupPart}
 use Rattle.unit.specs.State.{sendable, phasePossible, possibleAt, possible}
 use Rattle.unit.specs.Services.{requestName, answerFrom, onTransfer, onCode, onSending, onAcknowledge}
-use Rattle.unit.specs.Call.{onData, reactionAt, reactionTo, stateAfter as unitAfter, replyData, replyTo, numberBefore, unitNumber, unitState, unitReply, unitResult}
+use Rattle.unit.specs.Call.{onData, reactionAt, reactionTo, stateAfter as unitAfter, replyData, replyTo, numberBefore, unitNumber, unitState, unitReply}
+use Rattle.unit.specs.Call.{unitResult}
 use Rattle.tool.specs.State.{heldRight, transferPossible, possible as toolPossible}
 use Rattle.tool.specs.Sent.{transferRequest, acknowledgement, transferData, frameSent, sidSent}
-use Rattle.tool.specs.Event.{newBytes, fits, meaningOf, transferMeaning, isRefusal, refusalMeaning, dataMeaning, arrivalMeaning, arrivalBytes, afterFailedWait, stateAfter, sentAfter, roomAfter}
+use Rattle.tool.specs.Event.{newBytes, fits, meaningOf, transferMeaning, isRefusal, refusalMeaning, dataMeaning, arrivalMeaning, arrivalBytes, afterFailedWait}
+use Rattle.tool.specs.Event.{stateAfter, sentAfter, roomAfter}
 use Rattle.tool.specs.Call.{requestNumber, beginNumber, beginState, beginSent, beginResult, eventNumber, eventState, eventSent, eventRoom, eventResult}
 
 -- a lookup in a store

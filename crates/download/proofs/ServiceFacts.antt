@@ -51,7 +51,8 @@ ranges store u h =
     record { kind = and-left _ _ h; rate = and-left _ _ r; phase = and-right (leb (u .pending) 5) _ p }
 
 -- an answer that is being sent is held
-pub sending-held : (store : List ℕ) (name : AnswerName) (last : SubMessage) → phasePossible (lookupPlace narrow name store) (Sending name last) ≡ true → lookupNumber narrow name store ≡ 0
+pub sending-held : (store : List ℕ) (name : AnswerName) (last : SubMessage) → phasePossible (lookupPlace narrow name store) (Sending name last) ≡ true
+    → lookupNumber narrow name store ≡ 0
 unfolding phasePossible sendable
 sending-held store name last h =
     sym (number-of-place narrow store name (lookupPlace narrow name store) refl) ∙ eqb-true _ _ (and-left (eqb (lookupPlace narrow name store .number) 0) _ h)
@@ -92,7 +93,8 @@ module _ (sent asked : Place) (u : UnitState) (name : AnswerName) where
   unfolding onData transferData transferRequest
   request-first = refl
 
-  pub request-more : (k : ℕ) → onData sent asked u (transferData name (suc (suc k))) ≡ onAcknowledge (u .phase) sent (acknowledgement (acknowledgeOf (sub (suc k))))
+  pub request-more : (k : ℕ)
+      → onData sent asked u (transferData name (suc (suc k))) ≡ onAcknowledge (u .phase) sent (acknowledgement (acknowledgeOf (sub (suc k))))
   unfolding onData transferData acknowledgement
   request-more k =
       let z : suc (suc k) - 1 ≡ suc k = omega arith in
@@ -104,7 +106,8 @@ unfolding transferData transferRequest
 asked-first name d f = name-back name d f
 
 -- "36 TRTP (day)": known, its length and day right; then phase (22) and data held (FA)
-pub transfer-asked : (kind : ℕ) (phase : Phase) (place : Place) (name : AnswerName) → knownTo kind (name .trep) ≡ true → dayNamed name ≡ true → name .day < 0x100000000
+pub transfer-asked : (kind : ℕ) (phase : Phase) (place : Place) (name : AnswerName) → knownTo kind (name .trep) ≡ true → dayNamed name ≡ true
+    → name .day < 0x100000000
     → onTransfer kind phase place (transferRequest name) ≡ unless (isGranted phase) (Negative 0x36 0x22) (answerFrom name (sub 1) place)
 unfolding onTransfer transferRequest
 transfer-asked kind phase place name k d f = go (isActivities (name .trep)) refl
@@ -149,7 +152,8 @@ module _ (place : Place) (name : AnswerName) (n : ℕ) (h : suc n < 65536) where
 
 module _ (a : Addresses) (store : List ℕ) (u : UnitState) where
   -- "Unit call: 5, 11, 4 .., then frame numbers": none of them
-  pub not-refused : (room : ℕ) (b : List ℕ) → storeNumber narrow store ≡ 0 → possible store u ≡ true → leb 260 room ≡ true → judged a ends.Unit b ≡ 0 → unitNumber a store room u b ≡ 0
+  pub not-refused : (room : ℕ) (b : List ℕ) → storeNumber narrow store ≡ 0 → possible store u ≡ true → leb 260 room ≡ true → judged a ends.Unit b ≡ 0
+      → unitNumber a store room u b ≡ 0
   unfolding unitNumber numberBefore
   not-refused room b s p l j = rw (s, p, l, j)
 
@@ -158,6 +162,7 @@ module _ (a : Addresses) (store : List ℕ) (u : UnitState) where
   general d = refl
 
   -- a frame in the general form is heard where the phase is not closed
-  pub heard : (d : List ℕ) → 0 < length d → length d ≤ 255 → isClosed (u .phase) ≡ false → reactionTo a store u (frameOf a ends.Unit d) ≡ onData (placeSent store (u .phase)) (placeAsked store d) u d
+  pub heard : (d : List ℕ) → 0 < length d → length d ≤ 255 → isClosed (u .phase) ≡ false
+      → reactionTo a store u (frameOf a ends.Unit d) ≡ onData (placeSent store (u .phase)) (placeAsked store d) u d
   unfolding reactionTo reactionAt
   heard d s m o = rw (general d, o, data-reads-back a ends.Unit d s m)

@@ -30,7 +30,8 @@ use Rattle.tool.specs.declared.Meaning.{Meaning}
 use Rattle.tool.specs.declared.Meaning.the-variants.{FailedWait, WholeAnswer, SubMessageTaken, LastTaken}
 use Rattle.tool.specs.State.{heldRight, transferPossible, possible}
 use Rattle.tool.specs.Sent.{frameSent}
-use Rattle.tool.specs.Event.{newBytes, fits, meaningOf, transferMeaning, isRefusal, dataMeaning, arrivalMeaning, arrivalBytes, afterFailedWait, stateAfter, sentAfter, roomAfter}
+use Rattle.tool.specs.Event.{newBytes, fits, meaningOf, transferMeaning, isRefusal, dataMeaning, arrivalMeaning, arrivalBytes, afterFailedWait, stateAfter}
+use Rattle.tool.specs.Event.{sentAfter, roomAfter}
 use Rattle.tool.specs.Call.{eventNumber, eventState, eventSent, eventRoom, eventResult}
 use Rattle.line.specs.Line.{Result, silent, sends, toolEnd}
 use Rattle.line.proofs.Cases.{byTest}
@@ -49,7 +50,8 @@ leaves a t m new =
     }
 
 module _ (a : Addresses) (output : ℕ) (t : ToolRoom) (z : eventNumber (t .state) (length (t .room)) output ≡ 0) where
-  arrived : (b : List ℕ) (m : Meaning) (new : List ℕ) → arrivalMeaning a (length (t .room)) (t .state) b ≡ m → arrivalBytes a (t .state) b ≡ new → toolArrival a output t b ≡ leaves a t m new
+  arrived : (b : List ℕ) (m : Meaning) (new : List ℕ) → arrivalMeaning a (length (t .room)) (t .state) b ≡ m → arrivalBytes a (t .state) b ≡ new
+      → toolArrival a output t b ≡ leaves a t m new
   unfolding eventResult eventState eventSent eventRoom
   arrived b m new e n = rw (z, e, n)
 
@@ -266,7 +268,8 @@ module _ (g : Premises) where
           (λ t.
           let s = ltb-false 252 (length (answerData g)) t in
           let z : p ≡ 0 = omega (arith, count-one (length (answerData g)) s) in
-          let r : receivedAs (g .name .trep) (suc p) (subField (g .name .trep) (suc p) (answerData g)) ≡ Whole = rw z (whole-is (g .name .trep) (answerData g) s) in
+          let r : receivedAs (g .name .trep) (suc p) (subField (g .name .trep) (suc p) (answerData g)) ≡ Whole =
+          rw z (whole-is (g .name .trep) (answerData g) s) in
           let j : heldWith g p ++ subField (g .name .trep) (suc p) (answerData g) ≡ heldWith g (suc p) = rw z (joins-whole s) in
           framed (suc p) Whole r ∙ rw (new-fits _ j) (ends-whole _ j) ∙ at-last)
         where

@@ -38,15 +38,18 @@ use Rattle.download.proofs.ServiceFacts.{ranges, sending-held, granted-
 
 -- what a unit replies where nothing is refused
 module _ (store : List ℕ) (u : UnitState) (room : ℕ) (c : Called store u room) where
-  reply : (b : List ℕ) (r : Reaction) → judged lab ends.Unit b ≡ 0 → reactionTo lab store u b ≡ r → unitReply lab store room u b ≡ replyTo lab (replyData store r)
+  reply : (b : List ℕ) (r : Reaction) → judged lab ends.Unit b ≡ 0 → reactionTo lab store u b ≡ r
+      → unitReply lab store room u b ≡ replyTo lab (replyData store r)
   unfolding unitReply
   reply b r j e = rw (not-refused lab store u room b (c .unbroken) (c .possible) (le-leb 260 room (c .roomy)) j, e)
 
-  w1 : u .phase ≡ Started → unitReply lab store room u (0x80 ∷ 0xEE ∷ 0xF0 ∷ 0x02 ∷ 0x10 ∷ 0x81 ∷ 0xF1 ∷ []) ≡ 0x80 ∷ 0xF0 ∷ 0xEE ∷ 0x02 ∷ 0x50 ∷ 0x81 ∷ 0x31 ∷ []
+  w1 : u .phase ≡ Started
+      → unitReply lab store room u (0x80 ∷ 0xEE ∷ 0xF0 ∷ 0x02 ∷ 0x10 ∷ 0x81 ∷ 0xF1 ∷ []) ≡ 0x80 ∷ 0xF0 ∷ 0xEE ∷ 0x02 ∷ 0x50 ∷ 0x81 ∷ 0x31 ∷ []
   unfolding calls onSession
   w1 p = reply (0x80 ∷ 0xEE ∷ 0xF0 ∷ 0x02 ∷ 0x10 ∷ 0x81 ∷ 0xF1 ∷ []) SessionOpened refl (rw p)
 
-  w2 : u .phase ≡ Session → unitReply lab store room u (0x80 ∷ 0xEE ∷ 0xF0 ∷ 0x0A ∷ 0x35 ∷ 0x00 ∷ 0x00 ∷ 0x00 ∷ 0x00 ∷ 0x00 ∷ 0xFF ∷ 0xFF ∷ 0xFF ∷ 0xFF ∷ 0x99 ∷ []) ≡ 0x80 ∷ 0xF0 ∷ 0xEE ∷ 0x03 ∷ 0x75 ∷ 0x00 ∷ 0xFF ∷ 0xD5 ∷ []
+  w2 : u .phase ≡ Session
+      → unitReply lab store room u (0x80 ∷ 0xEE ∷ 0xF0 ∷ 0x0A ∷ 0x35 ∷ 0x00 ∷ 0x00 ∷ 0x00 ∷ 0x00 ∷ 0x00 ∷ 0xFF ∷ 0xFF ∷ 0xFF ∷ 0xFF ∷ 0x99 ∷ []) ≡ 0x80 ∷ 0xF0 ∷ 0xEE ∷ 0x03 ∷ 0x75 ∷ 0x00 ∷ 0xFF ∷ 0xD5 ∷ []
   unfolding calls onUpload
   w2 p = reply (0x80 ∷ 0xEE ∷ 0xF0 ∷ 0x0A ∷ 0x35 ∷ 0x00 ∷ 0x00 ∷ 0x00 ∷ 0x00 ∷ 0x00 ∷ 0xFF ∷ 0xFF ∷ 0xFF ∷ 0xFF ∷ 0x99 ∷ []) UploadGranted refl (rw p)
 
@@ -77,7 +80,8 @@ lens-two : (trep : ℕ) (d : List ℕ) → countOf (length d) ≡ 2 → lens tre
 unfolding framesFrom subFrame frameOf closed
 lens-two trep d e = rw e
 
-lens-three : (trep : ℕ) (d : List ℕ) → countOf (length d) ≡ 3 → lens trep d ≡ length (subField trep 1 d) ∷ length (subField trep 2 d) ∷ length (subField trep 3 d) ∷ []
+lens-three : (trep : ℕ) (d : List ℕ) → countOf (length d) ≡ 3
+    → lens trep d ≡ length (subField trep 1 d) ∷ length (subField trep 2 d) ∷ length (subField trep 3 d) ∷ []
 unfolding framesFrom subFrame frameOf closed
 lens-three trep d e = rw e
 

@@ -27,7 +27,8 @@ use Rattle.unit.specs.declared.Reaction.{Reaction}
 use Rattle.unit.specs.declared.Reaction.the-variants.{AnswerSent}
 use Rattle.unit.specs.State.{isGranted, placeSent, sendable, phasePossible, possibleAt, possible}
 use Rattle.unit.specs.Services.{answerFrom, onAcknowledge}
-use Rattle.unit.specs.Call.{placeAsked, onData, reactionTo, withPhase, stateAfter, replyData, replyTo, numberBefore, unitNumber, unitState, unitReply, unitResult}
+use Rattle.unit.specs.Call.{placeAsked, onData, reactionTo, withPhase, stateAfter, replyData, replyTo, numberBefore, unitNumber, unitState, unitReply}
+use Rattle.unit.specs.Call.{unitResult}
 use Rattle.tool.specs.declared.Request.the-variants as requests
 use Rattle.tool.specs.Sent.{acknowledgement, transferData, frameSent}
 use Rattle.tool.specs.Call.{requestNumber, beginNumber}
@@ -37,7 +38,8 @@ use Rattle.download.specs.CableEnds.{UnitGiven, strings, unitCall, refus
 use Rattle.download.specs.Demand.{SendingUnchanged, Premises, CallPremise, answerData, transfer}
 use Rattle.download.proofs.StoreFacts.{Held, held-place, held}
 use Rattle.download.proofs.FrameFacts.{strings-frame, asked-some, asked-most, asked-good, splits, frames-most}
-use Rattle.download.proofs.ServiceFacts.{ranges, sending-held, granted-open, request-first, request-more, asked-first, transfer-asked, sent-again, sent-next, not-refused, heard}
+use Rattle.download.proofs.ServiceFacts.{ranges, sending-held, granted-open, request-first, request-more, asked-first, transfer-asked, sent-again}
+use Rattle.download.proofs.ServiceFacts.{sent-next, not-refused, heard}
 
 -- A call
 
@@ -53,7 +55,8 @@ module _ (a : Addresses) (c : UnitGiven) (u : UnitState) where
   unfolding unitResult unitState unitReply unitNumber numberBefore
   called-short b s p l = rw (s, p, l)
 
-  called-refused : (b : List ℕ) → storeNumber narrow (c .store) ≡ 0 → possible (c .store) u ≡ true → leb 260 (c .reply) ≡ true → eqb (judged a ends.Unit b) 0 ≡ false → unitCall a c u b ≡ silent u
+  called-refused : (b : List ℕ) → storeNumber narrow (c .store) ≡ 0 → possible (c .store) u ≡ true → leb 260 (c .reply) ≡ true
+      → eqb (judged a ends.Unit b) 0 ≡ false → unitCall a c u b ≡ silent u
   unfolding unitResult unitState unitReply unitNumber numberBefore
   called-refused b s p l j = rw (s, p, l, j)
 
@@ -73,7 +76,8 @@ module _ (a : Addresses) (c : UnitGiven) (u : UnitState) where
 -- The unit's state through the transfer
 
 -- what is sent stays possible where it is unchanged
-sending-possible : (before now : List ℕ) (p : Phase) → SendingUnchanged p before now → phasePossible (placeSent before p) p ≡ true → phasePossible (placeSent now p) p ≡ true
+sending-possible : (before now : List ℕ) (p : Phase) → SendingUnchanged p before now → phasePossible (placeSent before p) p ≡ true
+    → phasePossible (placeSent now p) p ≡ true
 unfolding phasePossible sendable
 sending-possible before now Closed s h = refl
 sending-possible before now Started s h = refl
@@ -136,7 +140,8 @@ module _ (g : Premises) where
 
     possible-after : (n : ℕ) → CallPremise g (unitAfter n) c → n ≤ countOf (length (answerData g)) → possible (c .store) (unitAfter n) ≡ true
     unfolding possible possibleAt
-    possible-after zero o h = rw (sending-possible (g .store) (c .store) (g .unit .phase) (o .sending) (ranges (g .store) (g .unit) (g .possible) .phase)) (rw (ranges (g .store) (g .unit) (g .possible) .phase) at (g .possible))
+    possible-after zero o h =
+        rw (sending-possible (g .store) (c .store) (g .unit .phase) (o .sending) (ranges (g .store) (g .unit) (g .possible) .phase)) (rw (ranges (g .store) (g .unit) (g .possible) .phase) at (g .possible))
     possible-after (suc k) o h =
         rw (ranges (g .store) (g .unit) (g .possible) .kind, ranges (g .store) (g .unit) (g .possible) .rate) (sent-possible k (held (c .store) (g .name) (g .answer) (o .this)) h (isSplit (length (answerData g))) refl)
 
@@ -155,7 +160,8 @@ module _ (g : Premises) where
           byTest (leb 260 (c .reply)) (λ l. called-refused a c (unitAfter n) b whole (possible-after n o h) l (not-true _ r)) (λ l. lacks-room b l)
 
       -- a request at which the answer is sent
-      asked : (k : ℕ) → leb 260 (c .reply) ≡ true → onData (placeSent (c .store) (unitAfter n .phase)) (placeAsked (c .store) (transferData (g .name) (suc k))) (unitAfter n) (transferData (g .name) (suc k)) ≡ AnswerSent (g .name) (sub (suc k)) (lookupPlace narrow (g .name) (c .store))
+      asked : (k : ℕ) → leb 260 (c .reply) ≡ true
+          → onData (placeSent (c .store) (unitAfter n .phase)) (placeAsked (c .store) (transferData (g .name) (suc k))) (unitAfter n) (transferData (g .name) (suc k)) ≡ AnswerSent (g .name) (sub (suc k)) (lookupPlace narrow (g .name) (c .store))
           → unitCall a c (unitAfter n) (frameSent a requests.Transfer (g .name) (suc k)) ≡ sends (unitAfter (suc k)) (transfer a g .frame (suc k))
       unfolding frameSent
       asked k l e =
@@ -165,7 +171,8 @@ module _ (g : Premises) where
           ∙ ap (λ (u : UnitState). sends u (transfer a g .frame (suc k))) (phase-after n k)
 
     -- asked for the number last sent or the next one, the unit sends that frame
-    pub answers : (a : Addresses) (n k : ℕ) → CallPremise g (unitAfter n) c → leb 260 (c .reply) ≡ true → n ≤ suc k → k ≤ n → suc k ≤ countOf (length (answerData g))
+    pub answers : (a : Addresses) (n k : ℕ) → CallPremise g (unitAfter n) c → leb 260 (c .reply) ≡ true → n ≤ suc k → k ≤ n
+        → suc k ≤ countOf (length (answerData g))
         → unitCall a c (unitAfter n) (frameSent a requests.Transfer (g .name) (suc k)) ≡ sends (unitAfter (suc k)) (transfer a g .frame (suc k))
     unfolding answerFrom
     answers a n zero o l x y h =

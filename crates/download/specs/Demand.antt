@@ -1,6 +1,9 @@
--- DEMAND 3 (document 01, "The line and the book"): one claim about every list of events, over any two addresses that both ends are given at every call; they need
--- not differ. The chain: a call → its promise → a definition (specs/ of unit and tool) → an end of the cable (CableEnds.antt) → line, events and book (specs/ of line)
--- → the claim here. proofs/Theorem.antt proves it; proofs/Witness.antt meets its premises; proofs/Needed.antt shows what breaks without each.
+-- DEMAND 3 (document 01, "The line and the book"): one claim about every list of events, over any two addresses that
+-- both ends are given at every call; they need
+-- not differ. The chain: a call → its promise → a definition (specs/ of unit and tool) → an end of the cable
+-- (CableEnds.antt) → line, events and book (specs/ of line)
+-- → the claim here. proofs/Theorem.antt proves it; proofs/Witness.antt meets its premises; proofs/Needed.antt shows
+-- what breaks without each.
 use mathlib.Core.Path.{_≡_}
 use mathlib.Core.Bool.{true, false}
 use mathlib.Core.List.{List, [], _∷_, _++_}
@@ -37,7 +40,8 @@ pub record Holds (store : List ℕ) (name : AnswerName) (answer : List ℕ) : Ty
   pub held : lookupNumber narrow name store ≡ 0
   pub bytes : lookupPart narrow name store ≡ answer
 
--- "A list starts behind a transfer's accepted begin": the answer by its name and bytes, the unit with its store, the tool with its room and output
+-- "A list starts behind a transfer's accepted begin": the answer by its name and bytes, the unit with its store, the
+-- tool with its room and output
 pub record Premises : Type 0 where
   pub name : AnswerName
   pub answer : List ℕ
@@ -69,7 +73,8 @@ SendingUnchanged Granted before now = Unit {0}
 SendingUnchanged (Sending other last) before now = Holds now other (lookupPart narrow other before)
 
 module _ (given : Premises) where
-  -- A unit's call in the state u. The store may be another one at every call; it is unbroken and holds this answer as at the begin, and the one that is being sent.
+  -- A unit's call in the state u. The store may be another one at every call; it is unbroken and holds this answer as
+  -- at the begin, and the one that is being sent.
   pub record CallPremise (u : UnitState) (c : UnitGiven) : Type 0 where
     pub this : Holds (c .store) (given .name) (given .answer)
     pub sending : SendingUnchanged (u .phase) (given .store) (c .store)
@@ -95,7 +100,8 @@ outcomeOf books.noAnswer = NoAnswer
 outcomeOf books.heldOff = Fresh
 
 module _ (a : Addresses) (given : Premises) where
-  -- "the answer's frames 1 to q, split as above"; no unit asks for time. An event's output has 260 bytes or more; a reply
+  -- "the answer's frames 1 to q, split as above"; no unit asks for time. An event's output has 260 bytes or more; a
+  -- reply
   -- buffer has any length, on a clean line 260 or more.
   abbrev pub transfer : books.Transfer (cableEnds a)
   transfer =
@@ -128,7 +134,8 @@ module _ (a : Addresses) (given : Premises) where
   pub record Agrees (r : Run (cableEnds a)) : Type 0 where
     -- "After every list the tool waits or has ended as the book has"
     pub outcome : tool r .outcome ≡ outcomeOf (r .book .outcome)
-    -- "it holds 76, TREP and the data of frames 1 to p, at p = 0 nothing"; behind these bytes the room is as it was lent
+    -- "it holds 76, TREP and the data of frames 1 to p, at p = 0 nothing"; behind these bytes the room is as it was
+    -- lent
     pub heldLength : tool r .held ≡ length (heldWith given (r .book .taken))
     pub held : heldBytes r ≡ heldWith given (r .book .taken)
     pub behind : drop (tool r .held) (r .system .tool .room) ≡ drop (tool r .held) (given .room)
@@ -141,11 +148,14 @@ module _ (a : Addresses) (given : Premises) where
     pub noAnswerAtThree : (tool r .outcome ≡ NoAnswer) ↔ (r .book .failed ≡ 3)
     -- it "has put out at most 3q frames", its begin's too
     pub putOutAtMost : r .system .putOut ≤ 3 * transfer .q
-    -- "the count equals the frames put out since the last step forward". Done, the state keeps the count of its last wait ("An
-    -- ended state keeps all as at its last wait but outcome and held length"): the frames put out since the step forward with
+    -- "the count equals the frames put out since the last step forward". Done, the state keeps the count of its last
+    -- wait ("An
+    -- ended state keeps all as at its last wait but outcome and held length"): the frames put out since the step
+    -- forward with
     -- which that wait began
     pub sendings : r .putOutBefore + tool r .sendings ≡ r .system .putOut
-    -- the unit keeps its kind and rate, it is granted or sends this answer or the one before, and it is possible with the
+    -- the unit keeps its kind and rate, it is granted or sends this answer or the one before, and it is possible with
+    -- the
     -- store of the begin: the next transfer can begin
     pub unitKind : unit r .kind ≡ given .unit .kind
     pub unitRate : unit r .rate ≡ given .unit .rate

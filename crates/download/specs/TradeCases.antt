@@ -1,4 +1,5 @@
--- Document 01, Trade cases: the table W1 to W12 as one statement over the rules themselves, at the lab's addresses. Where a row says nothing of store, kind, rate or
+-- Document 01, Trade cases: the table W1 to W12 as one statement over the rules themselves, at the lab's addresses.
+-- Where a row says nothing of store, kind, rate or
 -- name, it is for all of them.
 use mathlib.Core.Path.{_≡_}
 use mathlib.Core.Bool.{true}
@@ -41,7 +42,8 @@ abbrev pub lens : ℕ → List ℕ → List ℕ
 lens trep d = map (λ (f : List ℕ). getD f 3 0) (framesOf lab trep d)
 
 abbrev pub store12 : List ℕ
-store12 = 0x00 ∷ 0x01 ∷ 0x00 ∷ 0x04 ∷ 0x00 ∷ 0x00 ∷ 0x00 ∷ 0x00 ∷ 0x00 ∷ 0x00 ∷ 0x00 ∷ 0x04 ∷ 0x76 ∷ 0x00 ∷ 0x02 ∷ 0x02 ∷ []
+store12 =
+    0x00 ∷ 0x01 ∷ 0x00 ∷ 0x04 ∷ 0x00 ∷ 0x00 ∷ 0x00 ∷ 0x00 ∷ 0x00 ∷ 0x00 ∷ 0x00 ∷ 0x04 ∷ 0x76 ∷ 0x00 ∷ 0x02 ∷ 0x02 ∷ []
 
 pub record TradeCases : Type 0 where
   -- W1: 80 EE F0 02 10 81 F1, started
@@ -55,13 +57,16 @@ pub record TradeCases : Type 0 where
   pub w3 : (u : UnitState) (room : ℕ) → Called store12 u room → u .kind ≡ 2 → u .phase ≡ Granted
       → unitReply lab store12 room u (0x80 ∷ 0xEE ∷ 0xF0 ∷ 0x02 ∷ 0x36 ∷ 0x00 ∷ 0x96 ∷ []) ≡ 0x80 ∷ 0xF0 ∷ 0xEE ∷ 0x04 ∷ 0x76 ∷ 0x00 ∷ 0x02 ∷ 0x02 ∷ 0xDC ∷ []
   -- W4: transfer of an answer not held, granted or sending
-  pub w4 : (store : List ℕ) (u : UnitState) (room : ℕ) (name : AnswerName) → Called store u room → Asked u name → unitStates.isGranted (u .phase) ≡ true → lookupNumber narrow name store ≡ 6
+  pub w4 : (store : List ℕ) (u : UnitState) (room : ℕ) (name : AnswerName) → Called store u room → Asked u name
+      → unitStates.isGranted (u .phase) ≡ true → lookupNumber narrow name store ≡ 6
       → unitReply lab store room u (frameOf lab ends.Unit (transferRequest name)) ≡ 0x80 ∷ 0xF0 ∷ 0xEE ∷ 0x03 ∷ 0x7F ∷ 0x36 ∷ 0xFA ∷ 0x10 ∷ []
   -- W5: transfer in session, held or not
-  pub w5 : (store : List ℕ) (u : UnitState) (room : ℕ) (name : AnswerName) → Called store u room → Asked u name → u .phase ≡ Session
+  pub w5 : (store : List ℕ) (u : UnitState) (room : ℕ) (name : AnswerName) → Called store u room → Asked u name
+      → u .phase ≡ Session
       → unitReply lab store room u (frameOf lab ends.Unit (transferRequest name)) ≡ 0x80 ∷ 0xF0 ∷ 0xEE ∷ 0x03 ∷ 0x7F ∷ 0x36 ∷ 0x22 ∷ 0x38 ∷ []
   -- W6: acknowledgement past the last
-  pub w6 : (store : List ℕ) (u : UnitState) (room : ℕ) (name : AnswerName) (last : ℕ) → Called store u room → u .phase ≡ Sending name (sub last) → last ≡ countOf (length (drop 2 (lookupPart narrow name store)))
+  pub w6 : (store : List ℕ) (u : UnitState) (room : ℕ) (name : AnswerName) (last : ℕ) → Called store u room
+      → u .phase ≡ Sending name (sub last) → last ≡ countOf (length (drop 2 (lookupPart narrow name store)))
       → unitReply lab store room u (frameOf lab ends.Unit (acknowledgement (acknowledgeOf (sub last)))) ≡ 0x80 ∷ 0xF0 ∷ 0xEE ∷ 0x03 ∷ 0x7F ∷ 0x83 ∷ 0x12 ∷ 0x75 ∷ []
   -- W7 to W10: 252, 253, 501, 502 data bytes
   pub w7 : (trep : ℕ) (d : List ℕ) → length d ≡ 252 → lens trep d ≡ 0xFE ∷ []
@@ -69,6 +74,7 @@ pub record TradeCases : Type 0 where
   pub w9 : (trep : ℕ) (d : List ℕ) → length d ≡ 501 → lens trep d ≡ 0xFF ∷ 0xFE ∷ []
   pub w10 : (trep : ℕ) (d : List ℕ) → length d ≡ 502 → lens trep d ≡ 0xFF ∷ 0xFF ∷ 0x04 ∷ []
   -- W11: code 2 from the tool, which expects sub message 2
-  pub w11 : (name : AnswerName) → frameSent lab requests.Transfer name 2 ≡ 0x80 ∷ 0xEE ∷ 0xF0 ∷ 0x04 ∷ 0x83 ∷ 0x76 ∷ 0x00 ∷ 0x02 ∷ 0x5D ∷ []
+  pub w11 : (name : AnswerName)
+      → frameSent lab requests.Transfer name 2 ≡ 0x80 ∷ 0xEE ∷ 0xF0 ∷ 0x04 ∷ 0x83 ∷ 0x76 ∷ 0x00 ∷ 0x02 ∷ 0x5D ∷ []
   -- W12: store with 02 02 under TREP 00, appended to an empty one
   pub w12 : appendOut narrow (0x76 ∷ 0x00 ∷ 0x02 ∷ 0x02 ∷ []) 0 (replicate 16 0x00) ≡ store12

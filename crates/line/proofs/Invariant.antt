@@ -7,16 +7,19 @@ use native.Mathlib.Omega.{arith}
 use native.Mathlib.Nat.{add-zero}
 use lib.Dec.{eqb}
 use borrow.Author.Tests.{eq-eqb, ne-eqb, eqb-true, eqb-false}
-use Rattle.line.specs.Line.{Result, silent, sends, Ends, End, unitEnd, toolEnd, System, unitCalled, toolCalled, unitArrives, toolArrives, hostActed, behindBegin, step}
+use Rattle.line.specs.Line.{Result, silent, sends, Ends, End, unitEnd, toolEnd, System, unitCalled, toolCalled, unitArrives, toolArrives, hostActed}
+use Rattle.line.specs.Line.{behindBegin, step}
 use Rattle.line.specs.Line.{Change, lineChanged, Event, arrivesAtUnit, arrivesAtTool, waitEnds, lineChanges, beginRefused, hostActs}
 use Rattle.line.specs.Book.{Transfer, Outcome, waiting, done, noAnswer, heldOff, Book, newBook, failedWait, askedForTime, whileWaiting, waitsAnew, fed}
 use Rattle.line.specs.Book.{Run, next, run, start}
 use Rattle.line.specs.Premises.{Spoils, Allowed, Unrepeated, Each}
 use Rattle.line.specs.Facts.{Facts, Owes, Waits}
 use Rattle.line.proofs.Cases.{byTest, byZero, never}
-use Rattle.line.proofs.Numbers.{UnitNumbers, unitNow, ToolNumbers, toolNow, bookAt, sentBy, unchanged, Reached, Counts, firstCounts, failedCounts, timeCounts, stepCounts}
+use Rattle.line.proofs.Numbers.{UnitNumbers, unitNow, ToolNumbers, toolNow, bookAt, sentBy, unchanged, Reached, Counts, firstCounts, failedCounts}
+use Rattle.line.proofs.Numbers.{timeCounts, stepCounts}
 use Rattle.line.proofs.Queue.{empty, bare, numbered, lower, rest, changedAt, count, count-join, count-changeAt}
-use Rattle.line.proofs.Queue.{Strings, isRefused, asksTime, ToUnit, ToTool, Order, firstAsked, otherToUnit, otherToTool, asksAgain, asksNext, sendsFrame, sendsTime}
+use Rattle.line.proofs.Queue.{Strings, isRefused, asksTime, ToUnit, ToTool, Order, firstAsked, otherToUnit, otherToTool, asksAgain, asksNext, sendsFrame}
+use Rattle.line.proofs.Queue.{sendsTime}
 
 itself : (n : ℕ) → eqb n n ≡ true
 itself n = eq-eqb n n refl

@@ -109,7 +109,8 @@ module _ (E : Ends) (T : Transfer E) (facts : Facts E T) (Unrepeatedly : Type 0)
   afterAt r i = claims (i .outcome) (i .book) (i .before) (i .at)
 
   -- Where the invariant holds, both ends are as the book has it.
-  toolIs : (t : E .ToolState) (v : ToolNumbers) (putOut : ℕ) (out : Outcome) → Reached T v out → Counts T v → t ≡ toolAt out (v .taken) (v .failed) (v .timeAsked)
+  toolIs : (t : E .ToolState) (v : ToolNumbers) (putOut : ℕ) (out : Outcome) → Reached T v out → Counts T v
+      → t ≡ toolAt out (v .taken) (v .failed) (v .timeAsked)
       → putOut ≡ sentBy v → ToolIs E T facts t putOut (v .before) (bookAt v out)
   toolIs t v m waiting h c e s = e
   toolIs t v m done h c e s = record { taken = v .taken; failed = v .failed; timeAsked = v .timeAsked; waits = c .waits; last = refl; is = e; sent = s }

@@ -88,7 +88,8 @@ module _ {E : Ends} (T : Transfer E) where
         earlier = c .earlier;
       }
 
-  pub timeCounts : {v : ToolNumbers} → Counts v → v .taken ≡ 0 → suc (v .timeAsked) ≤ T .timeMost → Counts (toolNow 0 (v .failed) (suc (v .timeAsked)) (v .before))
+  pub timeCounts : {v : ToolNumbers} → Counts v → v .taken ≡ 0 → suc (v .timeAsked) ≤ T .timeMost
+      → Counts (toolNow 0 (v .failed) (suc (v .timeAsked)) (v .before))
   timeCounts c z t =
       record {
         waits = record { more = omega arith; failed = c .waits .failed; timeAsked = t };

@@ -51,6 +51,7 @@ module _ {E : Ends} {T : Transfer E} {r : Run E} (none : T .timeMost ≡ 0) wher
   pub in-time : T .owed ≡ 0 → AfterClean E T r → 2 * T .q ≤ r .system .unitArrivals + r .system .toolArrivals → r .book .outcome ≡ done
   in-time z w h = w .inTime (omega arith)
 
-pub sent-done : {E : Ends} {T : Transfer E} → T .timeMost ≡ 0 → (facts : Facts E T) {t : E .ToolState} {putOut before p : ℕ} (d : DoneBy E T facts t putOut before p)
+pub sent-done : {E : Ends} {T : Transfer E} → T .timeMost ≡ 0
+    → (facts : Facts E T) {t : E .ToolState} {putOut before p : ℕ} (d : DoneBy E T facts t putOut before p)
     → putOut ≡ before + suc (d .failed)
 sent-done none facts d = omega (arith, d .sent, d .waits .timeAsked)

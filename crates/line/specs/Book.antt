@@ -1,10 +1,12 @@
--- Document 01, "The line and the book", second paragraph, and Req 09: one transfer, its book, and the run of both over a list
+-- Document 01, "The line and the book", second paragraph, and Req 09: one transfer, its book, and the run of both over
+-- a list
 -- of events.
 use mathlib.Core.Bool.{Bool, true, false, cond, not, _&&_}
 use mathlib.Core.List.{List, [], _∷_}
 use Prim.Native.Nat.{ℕ, suc}
 use lib.Dec.{eqb}
-use Rattle.line.specs.Line.{Result, Ends, End, toolEnd, System, Event, arrivesAtUnit, arrivesAtTool, waitEnds, lineChanges, beginRefused, hostActs, behindBegin, step}
+use Rattle.line.specs.Line.{Result, Ends, End, toolEnd, System, Event, arrivesAtUnit, arrivesAtTool, waitEnds}
+use Rattle.line.specs.Line.{lineChanges, beginRefused, hostActs, behindBegin, step}
 
 -- One transfer.
 pub record Transfer (E : Ends) : Type 1 where
@@ -21,7 +23,8 @@ pub record Transfer (E : Ends) : Type 1 where
   pub timeMost : ℕ
   -- the waits that the unit owes at the begin
   pub owed : ℕ
-  -- what is granted of what a unit's call is given, in the unit's state at that call; and of what a tool's event is given
+  -- what is granted of what a unit's call is given, in the unit's state at that call; and of what a tool's event is
+  -- given
   pub unitPremise : E .UnitState → E .UnitGiven → Type 0
   pub toolPremise : E .ToolGiven → Type 0
   -- a unit's call is given room for a reply
@@ -33,7 +36,8 @@ pub record Transfer (E : Ends) : Type 1 where
 pub data Outcome : Type 0 where
   waiting done noAnswer heldOff : Outcome
 
--- The book is document 01's own term: it keeps the frames taken (the document's p), the failed waits and the 78 replies since
+-- The book is document 01's own term: it keeps the frames taken (the document's p), the failed waits and the 78 replies
+-- since
 -- the last step forward (its f, and h), and whether the transfer has ended.
 pub record Book : Type 0 where
   pub taken : ℕ
@@ -88,7 +92,8 @@ isWaiting heldOff = false
 abbrev pub waitsAnew : Book → Book → Bool
 waitsAnew before after = not (eqb (after .taken) (before .taken)) && isWaiting (after .outcome)
 
--- System and book after some events. putOutBefore: the frames that the tool had put out before the step forward with which
+-- System and book after some events. putOutBefore: the frames that the tool had put out before the step forward with
+-- which
 -- its last wait began, so that putOut less putOutBefore is the frames put out since. At done no wait begins: it stays.
 pub record Run (E : Ends) : Type 0 where
   pub system : System E
@@ -96,8 +101,10 @@ pub record Run (E : Ends) : Type 0 where
   pub putOutBefore : ℕ
 
 module _ (E : Ends) (T : Transfer E) where
-  -- "Frame p+1 arriving at the tool is a step forward .. a spoiled string arriving at the tool, raises f by 1 .. All else
-  -- .. changes nothing." And "the tool counts 78 replies since its last step forward": those that it counts, h counts. Of the
+  -- "Frame p+1 arriving at the tool is a step forward .. a spoiled string arriving at the tool, raises f by 1 .. All
+  -- else
+  -- .. changes nothing." And "the tool counts 78 replies since its last step forward": those that it counts, h counts.
+  -- Of the
   -- three, the first that applies.
   abbrev pub arrived : List (E .String) → Book → Book
   arrived [] b = b
@@ -105,7 +112,8 @@ module _ (E : Ends) (T : Transfer E) where
       cond (T .same x (T .frame (suc (b .taken)))) (stepForward (T .q) b)
       (cond (T .refused toolEnd x) (failedWait b) (cond (T .asksTime (b .taken) x) (askedForTime (T .timeMost) b) b))
 
-  -- what an event changes in the book of a transfer that waits; queue is the one to the tool, whose front string arrives
+  -- what an event changes in the book of a transfer that waits; queue is the one to the tool, whose front string
+  -- arrives
   abbrev pub noted : Event E → List (E .String) → Book → Book
   noted (arrivesAtUnit c) queue b = b
   noted (arrivesAtTool d) queue b = arrived queue b

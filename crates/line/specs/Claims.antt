@@ -39,11 +39,14 @@ module _ (E : Ends) (T : Transfer E) where
     pub heldOffSome : r .book .outcome ≡ heldOff → 1 ≤ T .timeMost
     -- "An acknowledgement never meets 78": 78 replies count before the first frame only
     pub timeBeforeFirst : 1 ≤ r .book .taken → r .book .timeAsked ≡ 0
-    -- since the last step forward the tool put out one frame at the step, one at each failed wait but the third and one at each
+    -- since the last step forward the tool put out one frame at the step, one at each failed wait but the third and one
+    -- at each
     -- 78 reply but the twenty-first: its count of sendings, which leaves the 78 replies out, and its count of these
-    pub sentWaiting : r .book .outcome ≡ waiting → r .system .putOut ≡ r .putOutBefore + suc (r .book .failed) + r .book .timeAsked
+    pub sentWaiting : r .book .outcome ≡ waiting
+        → r .system .putOut ≡ r .putOutBefore + suc (r .book .failed) + r .book .timeAsked
     pub sentNoAnswer : r .book .outcome ≡ noAnswer → r .system .putOut ≡ r .putOutBefore + 3 + r .book .timeAsked
-    pub sentHeldOff : r .book .outcome ≡ heldOff → r .system .putOut ≡ r .putOutBefore + suc (r .book .failed) + T .timeMost
+    pub sentHeldOff : r .book .outcome ≡ heldOff
+        → r .system .putOut ≡ r .putOutBefore + suc (r .book .failed) + T .timeMost
     -- "The bound of three for each frame grows by 20 in all"
     pub putOutAtMost : r .system .putOut ≤ 3 * T .q + T .timeMost
     -- an answer frame with a number above the expected one, p + 1, is never on its way to the tool
@@ -67,7 +70,8 @@ module _ (E : Ends) (T : Transfer E) where
 module _ (E : Ends) (T : Transfer E) (facts : Facts E T) where
   open Facts facts using (request, unitAfter, toolAt)
 
-  -- A tool that is done, by its last wait: it had one frame less, and put out one frame, and one more at each failed wait and
+  -- A tool that is done, by its last wait: it had one frame less, and put out one frame, and one more at each failed
+  -- wait and
   -- each 78 reply of that wait.
   pub record DoneBy (t : E .ToolState) (putOut before p : ℕ) : Type 0 where
     pub taken : ℕ
@@ -103,6 +107,7 @@ module _ (E : Ends) (T : Transfer E) (facts : Facts E T) where
 
   -- The three claims about every list
   pub record Claims (es : List (Event E)) : Type 0 where
-    pub allowed : AllAllowed E T es (start E T .system) → AfterAllowed E T (run E T es (start E T)) × Agrees (run E T es (start E T))
+    pub allowed : AllAllowed E T es (start E T .system)
+        → AfterAllowed E T (run E T es (start E T)) × Agrees (run E T es (start E T))
     pub clean : AllClean E T es (start E T .system) → AfterClean E T (run E T es (start E T))
     pub plain : AllPlain E T es (start E T .system) → AfterPlain E T (run E T es (start E T))

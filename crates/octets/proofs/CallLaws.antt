@@ -27,7 +27,8 @@ module _ {A : Type 0} where
 pub written-is : (k n number m : ℕ) → k ≡ number → n ≡ changedBy number m 0 → _≡_ {A = Written} (record { number = k; len = n }) (writtenBy number m)
 written-is k n number m e q = cc
 
-pub place-is : (k s n number start m : ℕ) → k ≡ number → s ≡ changedBy number start 0 → n ≡ changedBy number m 0 → _≡_ {A = Place} (record { number = k; start = s; len = n }) (placeBy number start m)
+pub place-is : (k s n number start m : ℕ) → k ≡ number → s ≡ changedBy number start 0 → n ≡ changedBy number m 0
+    → _≡_ {A = Place} (record { number = k; start = s; len = n }) (placeBy number start m)
 place-is k s n number start m e p q = cc
 
 pub counted-is : (k n number m : ℕ) → k ≡ number → n ≡ changedBy number m 0 → _≡_ {A = Counted} (record { number = k; count = n }) (countedBy number m)

@@ -73,12 +73,14 @@ module _ (at : ℕ) (s : List ℕ) where
       let three : at + 3 ≡ suc (suc (suc at)) = omega arith in
       rw (drop-cons s at 0 (omega arith), drop-cons s (suc at) 0 (omega arith), drop-cons s (suc (suc at)) 0 (omega arith), drop-cons s (suc (suc (suc at))) 0 (omega arith), add-one, two, three)
 
-  pub read-two : (r width : ℕ) → at ≤ length s → width ≤ length s - at → width ≡ 2 → r ≡ numberOf (getD s at 0 ∷ getD s (at + 1) 0 ∷ []) → r ≡ numberAt width at s
+  pub read-two : (r width : ℕ) → at ≤ length s → width ≤ length s - at → width ≡ 2 → r ≡ numberOf (getD s at 0 ∷ getD s (at + 1) 0 ∷ [])
+      → r ≡ numberAt width at s
   unfolding numberAt
   read-two r width a h w e =
       rw (w, le-leb (at + 2) (length s) (omega arith), part-two (omega arith)) e
 
-  pub read-four : (r width : ℕ) → at ≤ length s → width ≤ length s - at → width ≡ 4 → r ≡ numberOf (getD s at 0 ∷ getD s (at + 1) 0 ∷ getD s (at + 2) 0 ∷ getD s (at + 3) 0 ∷ []) → r ≡ numberAt width at s
+  pub read-four : (r width : ℕ) → at ≤ length s → width ≤ length s - at → width ≡ 4
+      → r ≡ numberOf (getD s at 0 ∷ getD s (at + 1) 0 ∷ getD s (at + 2) 0 ∷ getD s (at + 3) 0 ∷ []) → r ≡ numberAt width at s
   unfolding numberAt
   read-four r width a h w e =
       rw (w, le-leb (at + 4) (length s) (omega arith), part-four (omega arith)) e
@@ -118,7 +120,8 @@ module _ (at : ℕ) (s : List ℕ) where
   write-other width n p q = rw (no-width width p q)
 
   -- a field of one of the two widths that has its place
-  pub write-field : (w width n : ℕ) (o : List ℕ) → at ≤ length s → width ≤ length s - at → width ≡ w → fieldWidth w ≡ true → o ≡ put at (bytesOf w n) s → o ≡ withNumber width at n s
+  pub write-field : (w width n : ℕ) (o : List ℕ) → at ≤ length s → width ≤ length s - at → width ≡ w → fieldWidth w ≡ true → o ≡ put at (bytesOf w n) s
+      → o ≡ withNumber width at n s
   unfolding withNumber
   write-field w width n o a h e f q =
       rw (e, f, le-leb (at + w) (length s) (omega arith)) q

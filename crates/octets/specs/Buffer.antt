@@ -1,4 +1,5 @@
--- Parts of a list of bytes, and what a lent buffer holds after a write: "A reply of m bytes changes only the first m of its buffer".
+-- Parts of a list of bytes, and what a lent buffer holds after a write: "A reply of m bytes changes only the first m of
+-- its buffer".
 use Prim.Native.Nat.{ℕ, _+_, _<_}
 use mathlib.Core.Bool.{Bool, true, false, cond, _&&_}
 use mathlib.Core.List.{List, [], _∷_, _++_}

@@ -55,7 +55,8 @@ outOfTurn = 11
 abbrev pub notInTable : ℕ
 notInTable = 12
 
--- Results that carry a number. "Each returns its number with the state as handed in, and writes nothing": whatever a call gives or changes,
+-- Results that carry a number. "Each returns its number with the state as handed in, and writes nothing": whatever a
+-- call gives or changes,
 -- it does so only where its number is 0.
 
 module _ {A : Type 0} where

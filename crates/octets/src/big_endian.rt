@@ -81,7 +81,8 @@ fn write_four(out: &mut [u8], at: usize, number: u32)
     out[at + 3] = (number % 256) as u8;
 }
 
-// Writes `number` into the `width` bytes from `at` on; nothing for another width than 2 and 4, or where the bytes end before.
+// Writes `number` into the `width` bytes from `at` on; nothing for another width than 2 and 4, or where the bytes end
+// before.
 pub fn write_number(out: &mut [u8], at: usize, width: usize, number: u32)
     ensures { λ _. ⌜ now (out .exit) ≡ withNumber width at number (now (out .entry)) ⌝ }
 {

@@ -52,7 +52,8 @@ pub fn copy_in(out: &mut [u8], bytes: &[u8])
     }
 }
 
-// Moves the bytes from `start` up to `end` by `by` places towards the back, the last one first; nothing where they do not fit.
+// Moves the bytes from `start` up to `end` by `by` places towards the back, the last one first; nothing where they do
+// not fit.
 pub fn shift_up(buffer: &mut [u8], start: usize, end: usize, by: usize)
     ensures { λ _. ⌜ now (buffer .exit) ≡ shifted start end by (now (buffer .entry)) ⌝ }
 {

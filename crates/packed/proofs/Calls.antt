@@ -25,9 +25,11 @@ use Rattle.tool.specs.declared.Meaning.the-variants.{FailedWait}
 use Rattle.tool.specs.declared.ToolState.{ToolState}
 use Rattle.tool.specs.State.{freshTool, isWaiting}
 use Rattle.tool.specs.Event.{arrivalMeaning, arrivalBytes, stateAfter as toolAfter}
-use Rattle.tool.specs.Call.{begun, beginNumber, beginState, beginSent, beginResult, beginOut, eventNumber, eventState, eventSent, eventRoom, eventResult, eventOut, arrivalResult, arrivalRoom, arrivalOut, waitResult, waitOut}
+use Rattle.tool.specs.Call.{begun, beginNumber, beginState, beginSent, beginResult, beginOut, eventNumber, eventState, eventSent, eventRoom, eventResult}
+use Rattle.tool.specs.Call.{eventOut, arrivalResult, arrivalRoom, arrivalOut, waitResult, waitOut}
 use Rattle.tool.proofs.BoundLaws as tools
-use Rattle.host.specs.Packed.{phaseFrom, nameSent, lastSent, packedUnit, unitName, unitLast, isUnit, unpackedUnit, requestFrom, packedTool, isTool, unpackedTool}
+use Rattle.host.specs.Packed.{phaseFrom, nameSent, lastSent, packedUnit, unitName, unitLast, isUnit, unpackedUnit, requestFrom, packedTool, isTool}
+use Rattle.host.specs.Packed.{unpackedTool}
 use Rattle.host.specs.Calls as calls
 use Rattle.host.specs.Calls.{unitHanded, unitKept, unitStep, unitStepReply, toolHanded, toolKept, toolWait}
 use Rattle.host.proofs.UnitLaws.{unit-back, unit-again}
@@ -99,7 +101,8 @@ toolBytes t = record { state = packedTool (t .state); room = t .room }
 abbrev pub packedTools : Result (List ℕ) ToolRoom → Result (List ℕ) ToolBytes
 packedTools r = record { next = toolBytes (r .next); out = r .out }
 
-pub unit-called : (c : UnitGiven) (u : UnitState) (x : List ℕ) → units.Fits (u .phase) → unitCall c (packedUnit u) x ≡ packedResult (cable.unitCall lab (lengths c) u x)
+pub unit-called : (c : UnitGiven) (u : UnitState) (x : List ℕ) → units.Fits (u .phase)
+    → unitCall c (packedUnit u) x ≡ packedResult (cable.unitCall lab (lengths c) u x)
 unfolding unitHanded unitKept unitResult unitState
 unit-called c u x f =
     rw (unit-returns u f, unit-string lab (c .reply) (c .store) u x)

@@ -32,7 +32,8 @@ use Rattle.download.proofs.ToolFacts as tools
 use Rattle.download.proofs.Theorem as theorem
 use Rattle.packed.specs.PackedEnds.{UnitGiven, ToolBytes, packedEnds}
 use Rattle.packed.specs.PackedDemand.{StateBytes, lengths, packedTransfer}
-use Rattle.packed.proofs.Calls.{unit-fits, unit-returns, packedResult, toolBytes, packedTools, unit-called, tool-arrived, tool-waited, ended-arrived, ended-waited}
+use Rattle.packed.proofs.Calls.{unit-fits, unit-returns, packedResult, toolBytes, packedTools, unit-called, tool-arrived, tool-waited, ended-arrived}
+use Rattle.packed.proofs.Calls.{ended-waited}
 
 -- bytes that are read as a possible state are a state
 none-impossible : (store : List ℕ) → unitStates.possible store noUnit ≡ false
@@ -82,7 +83,8 @@ module _ (g : Premises) (bytes : StateBytes g) where
   unfolding toolHanded toolKept toolBegin toolBeginOut requestFrom beginResult beginState
   begun-packed = rw (bytes .toolIs, begin-string lab (bytes .output) (g .tool) requests.Transfer (g .name), bytes .outputIs, g .accepted)
 
-  pub premise : (n : ℕ) (c : UnitGiven) → n ≤ countOf (length (answerData g)) → CallPremise g (unpackedUnit (packedUnit (units.unitAfter g n))) (lengths c) → CallPremise g (units.unitAfter g n) (lengths c)
+  pub premise : (n : ℕ) (c : UnitGiven) → n ≤ countOf (length (answerData g)) → CallPremise g (unpackedUnit (packedUnit (units.unitAfter g n))) (lengths c)
+      → CallPremise g (units.unitAfter g n) (lengths c)
   premise n c h o = rw (unit-after-returns n h) at o
 
   abbrev pub known : Facts (cable.cableEnds lab) (transfer lab g)

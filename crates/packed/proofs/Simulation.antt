@@ -47,18 +47,21 @@ tool-fresh : (b : List ℕ) → length b ≡ 15 → toolFreshState b ≡ packedT
 unfolding toolFreshState toolFreshNumber
 tool-fresh b h = rw (le-leb 15 (length b) (omega arith)) (filled (packedTool freshTool) b (h ∙ sym (length-tool freshTool)))
 
-unit-stepped : (b store f : List ℕ) (room : ℕ) → Bytes b → isUnit b ≡ true → unitKept (unitStep b store room f) b ≡ packedUnit (unitState lab store room (unpackedUnit b) f)
+unit-stepped : (b store f : List ℕ) (room : ℕ) → Bytes b → isUnit b ≡ true
+    → unitKept (unitStep b store room f) b ≡ packedUnit (unitState lab store room (unpackedUnit b) f)
 unfolding unitKept unitResult unitState
 unit-stepped b store f room bytes is =
     kept-packs packedUnit (unitNumber lab store room (unpackedUnit b) f) b (stateAfter (unpackedUnit b) (reactionTo lab store (unpackedUnit b) f)) (unpackedUnit b) (sym (unit-again b bytes is))
 
 module _ (b : List ℕ) (bytes : Bytes b) (is : isTool b ≡ true) where
-  tool-evented : (m : Meaning) (new : List ℕ) (room out : ℕ) → toolKept (eventResult lab (unpackedTool b) m new room out) b ≡ packedTool (eventState (unpackedTool b) m new room out)
+  tool-evented : (m : Meaning) (new : List ℕ) (room out : ℕ)
+      → toolKept (eventResult lab (unpackedTool b) m new room out) b ≡ packedTool (eventState (unpackedTool b) m new room out)
   unfolding toolKept eventResult eventState
   tool-evented m new room out =
       kept-packs packedTool (eventNumber (unpackedTool b) room out) b (toolAfter (unpackedTool b) m (length new)) (unpackedTool b) (sym (tool-again b bytes is))
 
-  tool-began : (request : ℕ) (name : AnswerName) (out : ℕ) → request ≤ 5 → toolKept (toolBegin b request name out) b ≡ packedTool (beginState (unpackedTool b) (requestFrom request) name out)
+  tool-began : (request : ℕ) (name : AnswerName) (out : ℕ) → request ≤ 5
+      → toolKept (toolBegin b request name out) b ≡ packedTool (beginState (unpackedTool b) (requestFrom request) name out)
   unfolding toolKept toolBegin beginResult beginState
   tool-began request name out h =
       rw (le-leb request 5 h)

@@ -35,7 +35,8 @@ unpackedTools t = record { state = unpackedTool (t .state); room = t .room }
 read : (b : ToolBytes) (t : ToolRoom) → toolBounds.Fits (t .state) → b ≡ toolBytes t → unpackedTools b ≡ t
 read b t f e = rw (e, tool-returns (t .state) f)
 
-module _ (g : Premises) (bytes : StateBytes g) (es : List (Event packedEnds)) (o : AllAllowed packedEnds (packedTransfer g bytes) es (packedStart g bytes .system)) where
+module _ (g : Premises) (bytes : StateBytes g) (es : List (Event packedEnds))
+    (o : AllAllowed packedEnds (packedTransfer g bytes) es (packedStart g bytes .system)) where
   abbrev after : Run packedEnds
   after = packedRun g bytes es
 
@@ -71,7 +72,8 @@ module _ (g : Premises) (bytes : StateBytes g) (es : List (Event packedEnds)) (o
       → ToolAs (cableEnds lab) (transfer lab g) (theorem.facts lab g) (unpackedRun after .system .tool) (after .system .putOut) (after .putOutBefore) (after .book .taken)
       (after .book .failed) (after .book .timeAsked) outcome
   unfolding packedFacts theorem.facts
-  tool-unpacked books.waiting t = read (after .system .tool) (tools.waitingTool g (after .book .taken) (after .book .failed)) (waiting-fits g bytes (after .book .taken) (after .book .failed) (claimed .takenAtMost)) t
+  tool-unpacked books.waiting t =
+      read (after .system .tool) (tools.waitingTool g (after .book .taken) (after .book .failed)) (waiting-fits g bytes (after .book .taken) (after .book .failed) (claimed .takenAtMost)) t
   tool-unpacked books.done t =
       record {
         taken = t .taken;
@@ -82,8 +84,10 @@ module _ (g : Premises) (bytes : StateBytes g) (es : List (Event packedEnds)) (o
         is = read (after .system .tool) (tools.doneTool g (t .failed)) (done-fits g bytes (t .failed)) (t .is);
         sent = t .sent;
       }
-  tool-unpacked books.noAnswer t = read (after .system .tool) (tools.noAnswerTool g (after .book .taken)) (no-answer-fits g bytes (after .book .taken) (claimed .takenAtMost)) t
-  tool-unpacked books.heldOff t = read (after .system .tool) (tools.noAnswerTool g (after .book .taken)) (no-answer-fits g bytes (after .book .taken) (claimed .takenAtMost)) t
+  tool-unpacked books.noAnswer t =
+      read (after .system .tool) (tools.noAnswerTool g (after .book .taken)) (no-answer-fits g bytes (after .book .taken) (claimed .takenAtMost)) t
+  tool-unpacked books.heldOff t =
+      read (after .system .tool) (tools.noAnswerTool g (after .book .taken)) (no-answer-fits g bytes (after .book .taken) (claimed .takenAtMost)) t
 
   -- so are the unit's
   unit-unpacked : theorem.UnitAt lab g (unpackedRun after)
@@ -117,13 +121,16 @@ module _ (g : Premises) (bytes : StateBytes g) (es : List (Event packedEnds)) (o
   tool-packs books.waiting t =
       packs-again (after .system .tool) (tools.waitingTool g (after .book .taken) (after .book .failed)) (waiting-fits g bytes (after .book .taken) (after .book .failed) (claimed .takenAtMost)) t
   tool-packs books.done t = packs-again (after .system .tool) (tools.doneTool g (t .failed)) (done-fits g bytes (t .failed)) (t .is)
-  tool-packs books.noAnswer t = packs-again (after .system .tool) (tools.noAnswerTool g (after .book .taken)) (no-answer-fits g bytes (after .book .taken) (claimed .takenAtMost)) t
-  tool-packs books.heldOff t = packs-again (after .system .tool) (tools.noAnswerTool g (after .book .taken)) (no-answer-fits g bytes (after .book .taken) (claimed .takenAtMost)) t
+  tool-packs books.noAnswer t =
+      packs-again (after .system .tool) (tools.noAnswerTool g (after .book .taken)) (no-answer-fits g bytes (after .book .taken) (claimed .takenAtMost)) t
+  tool-packs books.heldOff t =
+      packs-again (after .system .tool) (tools.noAnswerTool g (after .book .taken)) (no-answer-fits g bytes (after .book .taken) (claimed .takenAtMost)) t
 
   pub packs : Packs (after .system)
   packs = record { unit = unit-packs; tool = tool-packs (after .book .outcome) (agreed .tool) }
 
-module _ (g : Premises) (bytes : StateBytes g) (es : List (Event packedEnds)) (o : AllClean packedEnds (packedTransfer g bytes) es (packedStart g bytes .system)) where
+module _ (g : Premises) (bytes : StateBytes g) (es : List (Event packedEnds))
+    (o : AllClean packedEnds (packedTransfer g bytes) es (packedStart g bytes .system)) where
   clean-after : AfterClean packedEnds (packedTransfer g bytes) (packedRun g bytes es)
   clean-after = cleanLaws.after-clean packedEnds (packedTransfer g bytes) (packedFacts g bytes) es o
 

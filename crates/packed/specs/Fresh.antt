@@ -1,5 +1,7 @@
--- From the fresh calls to a transfer: a tool that tacho_tool_fresh made begins every transfer that 12 allows, and a unit
--- that tacho_unit_fresh made is granted behind the tool's start, session and upload. So the premises of the claim can be
+-- From the fresh calls to a transfer: a tool that tacho_tool_fresh made begins every transfer that 12 allows, and a
+-- unit
+-- that tacho_unit_fresh made is granted behind the tool's start, session and upload. So the premises of the claim can
+-- be
 -- met from there.
 use mathlib.Core.List.{List}
 use mathlib.Core.Path.{_≡_}

@@ -1,5 +1,7 @@
--- DEMAND 3 for the calls that a C host links, at the lab's addresses: the claim of crate download, of runs whose ends are
--- driven through packed bytes. The chain: a call of tacho.h → its promise → a definition (specs/Calls.antt of host) → an
+-- DEMAND 3 for the calls that a C host links, at the lab's addresses: the claim of crate download, of runs whose ends
+-- are
+-- driven through packed bytes. The chain: a call of tacho.h → its promise → a definition (specs/Calls.antt of host) →
+-- an
 -- end of the cable (PackedEnds.antt) → line, events and book (specs/ of line) → what holds (Agrees and AgreesClean of
 -- download) of the states that the bytes are. proofs/Theorem.antt proves it.
 use mathlib.Core.Path.{_≡_}
@@ -20,7 +22,8 @@ use Rattle.download.specs.CableEnds.{cableEnds}
 use Rattle.download.specs.Demand.{Premises, CallPremise, transfer, Agrees, AgreesClean}
 use Rattle.packed.specs.PackedEnds.{UnitGiven, ToolBytes, toolBegun, packedEnds}
 
--- The premises of demand 3, with the state bytes and the output that a host has at the begin: those of a fresh tool, or of
+-- The premises of demand 3, with the state bytes and the output that a host has at the begin: those of a fresh tool, or
+-- of
 -- any other state that is possible
 pub record StateBytes (given : Premises) : Type 0 where
   pub unit : List ℕ

@@ -1,5 +1,6 @@
 -- A packed call does what the Rattle call does: after it the state bytes are the packing of the state that the Rattle
--- call gives on the unpacked one, and unpacking gives that state back. So every call keeps the bounds that packing needs.
+-- call gives on the unpacked one, and unpacking gives that state back. So every call keeps the bounds that packing
+-- needs.
 -- A refused call leaves the bytes, and the Rattle call its state.
 use mathlib.Core.Bool.{true}
 use mathlib.Core.List.{List}

@@ -73,7 +73,8 @@ module _ (at : ℕ) (s : List ℕ) where
         pub found-long : (r : Array) → length s - at - 5 < len → r ≡ none 9 → r ≡ foundAt at s
         found-long r t e = found-refused r (no-room (omega (arith, long))) e
 
-        pub found-whole : (size ≡ 0 → ⊥) → len ≤ length s - at - 5 → _≡_ {A = Array} (record { number = 0; kind = getD s at 0; size = size; count = count; start = at + 5; len = len }) (foundAt at s)
+        pub found-whole : (size ≡ 0 → ⊥) → len ≤ length s - at - 5
+            → _≡_ {A = Array} (record { number = 0; kind = getD s at 0; size = size; count = count; start = at + 5; len = len }) (foundAt at s)
         unfolding arrayBy
         found-whole z t =
             let e = size-read size a h p in

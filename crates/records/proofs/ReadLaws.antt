@@ -17,7 +17,8 @@ use Rattle.octets.proofs.ValueLaws.{same-values, length-values, value-at}
 use Rattle.octets.proofs.Tests.{and-left, and-right}
 use Rattle.octets.proofs.BufferLaws.{length-part}
 use Rattle.octets.proofs.NumberLaws.{read-two, bytes-of-number}
-use Rattle.records.specs.Arrays.{kindAt, sizeAt, countAt, lengthAt, nextAt, standsAt, filledFrom, arraysFrom, behind, headerOf, arrayNumber, arrayBy, recordPlace, recordOf}
+use Rattle.records.specs.Arrays.{kindAt, sizeAt, countAt, lengthAt, nextAt, standsAt, filledFrom, arraysFrom, behind, headerOf, arrayNumber, arrayBy}
+use Rattle.records.specs.Arrays.{recordPlace, recordOf}
 use Rattle.records.specs.Written.{RecordArray, Sound, joined, writtenArray, written, arrayRead}
 use Rattle.records.proofs.HeaderLaws.{stands-size, stands-within}
 use Rattle.records.proofs.RunLaws.{filled-none, filled-turn, arrays-turn, arrays-none, end-none, behind-turn}
@@ -110,14 +111,16 @@ none-read most at s h l =
     rw z (sym (drop-of-length-le s l))
 
 -- where one stands, it and those behind it
-some-read : (n at : ℕ) (s : List ℕ) → Bytes s → standsAt at s ≡ true → written (arraysHere n (nextAt at s) s) ≡ drop (nextAt at s) s → written (arraysHere (suc n) at s) ≡ drop at s
+some-read : (n at : ℕ) (s : List ℕ) → Bytes s → standsAt at s ≡ true → written (arraysHere n (nextAt at s) s) ≡ drop (nextAt at s) s
+    → written (arraysHere (suc n) at s) ≡ drop at s
 unfolding written upTo behind
 some-read n at s bytes t e =
     let same : (i : ℕ) → i < n → arrayHere (behind (suc i) at s) s ≡ arrayHere (behind i (nextAt at s) s) s = λ i h. rw (behind-turn i at s t) in
     rw (same-values n (λ i. arrayHere (behind (suc i) at s) s) (λ i. arrayHere (behind i (nextAt at s) s) s) same, e) (here-written at s bytes t)
 
 -- written one behind the other they are the bytes from there on
-pub filled-read : (most at : ℕ) (s : List ℕ) → Bytes s → at ≤ length s → filledFrom most at s ≡ true → written (arraysHere (arraysFrom most at s) at s) ≡ drop at s
+pub filled-read : (most at : ℕ) (s : List ℕ) → Bytes s → at ≤ length s → filledFrom most at s ≡ true
+    → written (arraysHere (arraysFrom most at s) at s) ≡ drop at s
 filled-read zero at s bytes h f = none-read zero at s h (filled-none at s f)
 filled-read (suc most) at s bytes h f =
     elim (decLt at (length s)) as (λ _. written (arraysHere (arraysFrom (suc most) at s) at s) ≡ drop at s) [
@@ -136,7 +139,8 @@ abbrev pub arrayOf : ℕ → ℕ → List (List ℕ) → RecordArray
 arrayOf kind size records = record { kind = kind; size = size; records = records }
 
 module _ (i : ℕ) (s : List ℕ) (there : arrayNumber i s ≡ 0) where
-  pub record-there : (k : ℕ) → k < countAt (headerOf i s) s → recordOf i k s ≡ partAt (headerOf i s + 5 + sizeAt (headerOf i s) s * k) (sizeAt (headerOf i s) s) s
+  pub record-there : (k : ℕ) → k < countAt (headerOf i s) s
+      → recordOf i k s ≡ partAt (headerOf i s + 5 + sizeAt (headerOf i s) s * k) (sizeAt (headerOf i s) s) s
   unfolding recordOf recordPlace
   record-there k h = rw (number-then i s there k, lt-ltb k (countAt (headerOf i s) s) h)
 

@@ -11,7 +11,8 @@ use borrow.Author.Tests.{lt-ltb, le-ltb, eq-eqb, ne-eqb, ltb-true}
 use Rattle.octets.specs.Order.{unless}
 use Rattle.octets.specs.Numbers.{placeBy}
 use Rattle.octets.specs.declared.Place.{Place}
-use Rattle.records.specs.Arrays.{sizeAt, countAt, lengthAt, standsAt, isRun, arraysIn, headerOf, arrayNumber, recordNumber, arrayBy, arrayAt, recordPlace, inNumber, recordIn}
+use Rattle.records.specs.Arrays.{sizeAt, countAt, lengthAt, standsAt, isRun, arraysIn, headerOf, arrayNumber, recordNumber, arrayBy, arrayAt, recordPlace}
+use Rattle.records.specs.Arrays.{inNumber, recordIn}
 use Rattle.records.specs.declared.Array.{Array}
 use Rattle.records.proofs.HeaderLaws.{stands-size, stands-within}
 use Rattle.octets.proofs.OrderLaws.{unless-is, unless-refused}
@@ -39,7 +40,8 @@ module _ (bytes size count k : ℕ) where
     unfolding recordIn inNumber
     in-none r h l q = rw (q, positive, eq-eqb bytes (size * count) (h ∙ e), le-ltb k count l)
 
-    pub in-found : (start : ℕ) → bytes ≡ n → k < count → start ≡ size * k → _≡_ {A = Place} (record { number = 0; start = start; len = size }) (recordIn bytes size count k)
+    pub in-found : (start : ℕ) → bytes ≡ n → k < count → start ≡ size * k
+        → _≡_ {A = Place} (record { number = 0; start = start; len = size }) (recordIn bytes size count k)
     unfolding recordIn inNumber
     in-found start h l q = rw (q, positive, eq-eqb bytes (size * count) (h ∙ e), lt-ltb k count l)
 
@@ -67,7 +69,8 @@ module _ (i : ℕ) (s : List ℕ) (z : arrayNumber i s ≡ 0) where
 
   pub there-below : i < arraysIn s
   unfolding arrayNumber
-  there-below = ltb-true i (arraysIn s) (unless-is (ltb i (arraysIn s)) 10 0 0 refl (unless-is (isRun s) 9 (unless (ltb i (arraysIn s)) 10 0) 0 refl z .rest) .first)
+  there-below =
+      ltb-true i (arraysIn s) (unless-is (ltb i (arraysIn s)) 10 0 0 refl (unless-is (isRun s) 9 (unless (ltb i (arraysIn s)) 10 0) 0 refl z .rest) .first)
 
   pub there-stands : standsAt (headerOf i s) s ≡ true
   unfolding arraysIn

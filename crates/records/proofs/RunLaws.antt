@@ -8,7 +8,8 @@ use native.Mathlib.Nat.{sub-zero}
 use lib.ListN.{length}
 use borrow.Author.Tests.{lt-ltb, le-ltb, eq-eqb, ne-eqb, eqb-true}
 use Rattle.octets.specs.declared.Counted.{Counted}
-use Rattle.records.specs.Arrays.{nextAt, standsAt, filledFrom, isRun, arraysFrom, arraysIn, behind, headerOf, bodyNumber, arrayNumber, arrayBy, foundAt, arrayCount, arrayAt}
+use Rattle.records.specs.Arrays.{nextAt, standsAt, filledFrom, isRun, arraysFrom, arraysIn, behind, headerOf, bodyNumber, arrayNumber, arrayBy, foundAt}
+use Rattle.records.specs.Arrays.{arrayCount, arrayAt}
 use Rattle.records.specs.declared.Array.{Array}
 use Rattle.octets.proofs.OrderLaws.{unless-is, unless-refused}
 use Rattle.records.proofs.HeaderLaws.{none, stands-within, found-stands, found-none, found-next, found-within}
@@ -64,21 +65,25 @@ module _ (s : List ℕ) (at count : ℕ) (before : count ≤ at) (inside : at < 
   pub next-less : a .number ≡ 0 → length s - (a .start + a .len) < length s - at
   next-less z = omega (arith, found-next at s a e z, found-within at s a e z)
 
-  pub filled-more : filledFrom (length s) 0 s ≡ filledFrom (length s - count) at s → a .number ≡ 0 → filledFrom (length s) 0 s ≡ filledFrom (length s - (count + 1)) (a .start + a .len) s
+  pub filled-more : filledFrom (length s) 0 s ≡ filledFrom (length s - count) at s → a .number ≡ 0
+      → filledFrom (length s) 0 s ≡ filledFrom (length s - (count + 1)) (a .start + a .len) s
   filled-more q z = q ∙ rw (fuel, filled-turn (length s - (count + 1)) at s inside, found-stands at s a e z, found-next at s a e z)
 
-  pub arrays-more : count + arraysFrom (length s - count) at s ≡ arraysFrom (length s) 0 s → a .number ≡ 0 → count + 1 + arraysFrom (length s - (count + 1)) (a .start + a .len) s ≡ arraysFrom (length s) 0 s
+  pub arrays-more : count + arraysFrom (length s - count) at s ≡ arraysFrom (length s) 0 s → a .number ≡ 0
+      → count + 1 + arraysFrom (length s - (count + 1)) (a .start + a .len) s ≡ arraysFrom (length s) 0 s
   arrays-more q z =
       let t = arrays-turn (length s - (count + 1)) at s (found-stands at s a e z) in
       let u : arraysFrom (length s - count) at s ≡ arraysFrom (suc (length s - (count + 1))) at s = rw fuel in
       rw (found-next at s a e z) (omega arith)
 
-  pub count-broken : filledFrom (length s) 0 s ≡ filledFrom (length s - count) at s → (a .number ≡ 0 → ⊥) → _≡_ {A = Counted} (record { number = 9; count = 0 }) (arrayCount s)
+  pub count-broken : filledFrom (length s) 0 s ≡ filledFrom (length s - count) at s → (a .number ≡ 0 → ⊥)
+      → _≡_ {A = Counted} (record { number = 9; count = 0 }) (arrayCount s)
   unfolding bodyNumber isRun
   count-broken q n = let f : filledFrom (length s) 0 s ≡ false = q ∙ rw (fuel, filled-turn (length s - (count + 1)) at s inside, found-none at s a e n) in rw f
 
 -- nothing is left
-pub count-whole : (s : List ℕ) (at count : ℕ) → at ≤ length s → length s ≤ at → filledFrom (length s) 0 s ≡ filledFrom (length s - count) at s → count + arraysFrom (length s - count) at s ≡ arraysFrom (length s) 0 s
+pub count-whole : (s : List ℕ) (at count : ℕ) → at ≤ length s → length s ≤ at → filledFrom (length s) 0 s ≡ filledFrom (length s - count) at s
+    → count + arraysFrom (length s - count) at s ≡ arraysFrom (length s) 0 s
     → _≡_ {A = Counted} (record { number = 0; count = count }) (arrayCount s)
 unfolding bodyNumber isRun arraysIn
 count-whole s at count p q f g =
@@ -127,7 +132,8 @@ stands-behind (suc most) zero at s h = go (standsAt at s) h
     go false h = absurd (omega arith)
 stands-behind (suc most) (suc k) at s h = go (standsAt at s) h (λ p. stands-behind most k (nextAt at s) s p)
   where
-    go : (b : Bool) → suc k < cond b (arraysFrom most (nextAt at s) s + 1) 0 → (k < arraysFrom most (nextAt at s) s → standsAt (behind k (nextAt at s) s) s ≡ true)
+    go : (b : Bool) → suc k < cond b (arraysFrom most (nextAt at s) s + 1) 0
+        → (k < arraysFrom most (nextAt at s) s → standsAt (behind k (nextAt at s) s) s ≡ true)
         → standsAt (cond b (behind k (nextAt at s) s) at) s ≡ true
     go true h next = next (omega arith)
     go false h next = absurd (omega arith)

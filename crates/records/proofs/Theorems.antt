@@ -17,12 +17,14 @@ use Rattle.octets.specs.Buffer.{partAt, Bytes}
 use Rattle.octets.specs.declared.Place.{Place}
 use Rattle.octets.specs.declared.Counted.{Counted}
 use Rattle.octets.proofs.BufferLaws.{length-part}
-use Rattle.records.specs.Arrays.{sizeAt, countAt, lengthAt, standsAt, filledFrom, isRun, arraysFrom, arraysIn, behind, headerOf, bodyNumber, arrayNumber, arrayBy, arrayCount, arrayAt, recordPlace, arrayRecords, recordOf, recordIn}
+use Rattle.records.specs.Arrays.{sizeAt, countAt, lengthAt, standsAt, filledFrom, isRun, arraysFrom, arraysIn, behind, headerOf, bodyNumber, arrayNumber}
+use Rattle.records.specs.Arrays.{arrayBy, arrayCount, arrayAt, recordPlace, arrayRecords, recordOf, recordIn}
 use Rattle.records.specs.Written.{RecordArray, noRecords, AllSound, joined, writtenArray, written, arrayRead, arraysRead}
 use Rattle.records.proofs.HeaderLaws.{stands-size, stands-within}
 use Rattle.octets.proofs.OrderLaws.{unless-is, unless-refused}
 use Rattle.records.proofs.RecordLaws.{in-own, there-stands, number-then}
-use Rattle.records.proofs.WrittenLaws.{joined-record, length-list, filled-written, behind-written, kind-here, size-here, count-here, length-here, records-part}
+use Rattle.records.proofs.WrittenLaws.{joined-record, length-list, filled-written, behind-written, kind-here, size-here, count-here, length-here}
+use Rattle.records.proofs.WrittenLaws.{records-part}
 use Rattle.octets.proofs.ValueLaws.{same-values, length-values, value-at, values-of}
 use Rattle.records.proofs.ReadLaws.{arrayOf, arrayHere, arraysHere, here-sound, filled-read, record-there, array-there}
 

@@ -30,7 +30,8 @@ unfolding arrayRecords arrayBy
 refused-zero i s n = rw (ne-eqb (arrayNumber i s) 0 n)
 
 -- "10, also for every k of a view whose slice is not size times number bytes or whose size is zero": any view, whoever made it
-pub ten-in-odd : (view : Shown) (k : ℕ) → ((view .size ≡ 0 → ⊥) → length (view .records) ≡ view .size * view .count → ⊥) → (viewRecordNumber view k ≡ 10) × (viewRecord view k ≡ [])
+pub ten-in-odd : (view : Shown) (k : ℕ) → ((view .size ≡ 0 → ⊥) → length (view .records) ≡ view .size * view .count → ⊥)
+    → (viewRecordNumber view k ≡ 10) × (viewRecord view k ≡ [])
 ten-in-odd view k odd =
     let none : Place = nothing 10 in
     let bytes : ℕ = length (view .records) in

@@ -35,7 +35,8 @@ length-joined size (r ∷ records) e =
     let t = length-joined size records (λ k l. e (suc k) (omega arith)) in
     length-append r (joined records) ∙ rw (t, h) (add-comm size (size * length records) ∙ sym (mul-suc size (length records)))
 
-pub joined-record : (size : ℕ) (records : List (List ℕ)) (rest : List ℕ) → Each size records → (k : ℕ) → k < length records → partAt (size * k) size (joined records ++ rest) ≡ getD records k []
+pub joined-record : (size : ℕ) (records : List (List ℕ)) (rest : List ℕ) → Each size records → (k : ℕ) → k < length records
+    → partAt (size * k) size (joined records ++ rest) ≡ getD records k []
 unfolding joined
 joined-record size [] rest e k h = absurd (omega arith)
 joined-record size (r ∷ records) rest e zero h = rw (append-assoc, mul-zero) (take-at r (joined records ++ rest) size (e 0 h))
@@ -101,7 +102,8 @@ unfolding written
 length-list [] = omega arith
 length-list (a ∷ l) = omega (arith, length-append (writtenArray a) (written l), length-array a, length-list l)
 
-pub filled-written : (l : List RecordArray) (most at : ℕ) (s : List ℕ) → AllSound l → length l ≤ most → at ≤ length s → drop at s ≡ written l → (filledFrom most at s ≡ true) × (arraysFrom most at s ≡ length l)
+pub filled-written : (l : List RecordArray) (most at : ℕ) (s : List ℕ) → AllSound l → length l ≤ most → at ≤ length s → drop at s ≡ written l
+    → (filledFrom most at s ≡ true) × (arraysFrom most at s ≡ length l)
 unfolding written
 filled-written [] most at s w m h e =
     let t = at-end at s h e in

@@ -35,7 +35,8 @@ nextAt at body = at + 5 + lengthAt at body
 unfoldable pub standsAt : ℕ → List ℕ → Bool
 standsAt at body = ltb 0 (sizeAt at body) && leb (nextAt at body) (length body)
 
--- "A body .. must be filled exactly by arrays": from `at` on nothing is left, or an array stands there and what is behind it is filled so.
+-- "A body .. must be filled exactly by arrays": from `at` on nothing is left, or an array stands there and what is
+-- behind it is filled so.
 -- An array has 5 bytes or more, so a body has no more arrays than bytes.
 unfoldable pub filledFrom : ℕ → ℕ → List ℕ → Bool
 filledFrom zero at body = eqb at (length body)
@@ -52,7 +53,8 @@ arraysFrom (suc most) at body = cond (standsAt at body) (arraysFrom most (nextAt
 unfoldable pub arraysIn : List ℕ → ℕ
 arraysIn body = arraysFrom (length body) 0 body
 
--- the place behind the first arrays, as far as they stand: "Arrays and records count from zero", so behind k of them is array k
+-- the place behind the first arrays, as far as they stand: "Arrays and records count from zero", so behind k of them is
+-- array k
 unfoldable pub behind : ℕ → ℕ → List ℕ → ℕ
 behind zero at body = at
 behind (suc arrays) at body = cond (standsAt at body) (behind arrays (nextAt at body) body) at
@@ -120,7 +122,8 @@ arrayRecords array body = partAt (arrayAt array body .start) (arrayAt array body
 unfoldable pub recordOf : ℕ → ℕ → List ℕ → List ℕ
 recordOf array k body = partAt (recordPlace array k body .start) (recordPlace array k body .len) body
 
--- A record within an array's own slice of so many bytes: "or 10, also for every k of a view whose slice is not size times number bytes
+-- A record within an array's own slice of so many bytes: "or 10, also for every k of a view whose slice is not size
+-- times number bytes
 -- or whose size is zero"
 unfoldable pub inNumber : ℕ → ℕ → ℕ → ℕ → ℕ
 inNumber bytes size count k =

@@ -1,4 +1,5 @@
--- Document 01, Record arrays: "The view of one array carries a reference to its own slice; it shows the k-th record as that part of the
+-- Document 01, Record arrays: "The view of one array carries a reference to its own slice; it shows the k-th record as
+-- that part of the
 -- body, or 10, also for every k of a view whose slice is not size times number bytes or whose size is zero".
 use Prim.Native.Nat.{ℕ}
 use mathlib.Core.List.{List}
@@ -26,7 +27,8 @@ pub record Shown : Type 0 where
 abbrev pub shown : ArrayView → Shown
 shown view = record { records = now (view .records); kind = view .kind; size = view .size; count = view .count }
 
--- the view of an array: its slice, and type, record size and number of records of its header. "Refused, .. the view all zero"
+-- the view of an array: its slice, and type, record size and number of records of its header. "Refused, .. the view all
+-- zero"
 abbrev pub viewed : ℕ → List ℕ → Shown
 viewed array body =
     record {

@@ -9,9 +9,11 @@ ghost use mathlib.Core.Path.{_≡_};
 ghost use Prim.Native.Nat.{_*_, _≤_};
 ghost use lib.ListN.{length};
 ghost use Rattle.octets.specs.Buffer.{partAt};
-ghost use Rattle.records.specs.Arrays.{foundAt, headerOf, arrayCount, arrayAt, arrayRecords, recordIn, recordPlace, recordOf};
+ghost use Rattle.records.specs.Arrays.{foundAt, headerOf, arrayCount, arrayAt, arrayRecords, recordIn};
+ghost use Rattle.records.specs.Arrays.{recordPlace, recordOf};
 
-// One array of a body: its header (kind is the record type) and the place of its records in the body. Refused, all zero but the number.
+// One array of a body: its header (kind is the record type) and the place of its records in the body. Refused, all zero
+// but the number.
 #[repr(C)]
 pub struct Array {
     pub number: u8,
@@ -120,7 +122,8 @@ fn header_of(body: &[u8], array: usize) -> usize
     at
 }
 
-// The array with this number, counted from zero: 9 where the body is no run of arrays, then 10 where it has no such array.
+// The array with this number, counted from zero: 9 where the body is no run of arrays, then 10 where it has no such
+// array.
 pub fn array_at(body: &[u8], array: usize) -> Array
     ensures { λ r. ⌜ r ≡ arrayAt array (now (body .entry)) ⌝ }
 {
@@ -155,7 +158,8 @@ pub fn array_records(body: &[u8], array: usize) -> &[u8]
     records_of(body, array_at(body, array))
 }
 
-// Where a record lies in an array's own slice of `records_len` bytes: 10 where there is no such record, and for every one where the slice
+// Where a record lies in an array's own slice of `records_len` bytes: 10 where there is no such record, and for every
+// one where the slice
 // is not size times number bytes long or the size is zero.
 pub fn record_in(records_len: usize, size: u16, count: u16, record: usize) -> Place
     ensures { λ r. ⌜ r ≡ recordIn «records_len» size count «record» ⌝ }

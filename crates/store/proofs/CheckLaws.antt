@@ -16,7 +16,8 @@ use Rattle.octets.proofs.NumberLaws.{read-two, read-four}
 use Rattle.catalog.specs.Name.{sameAnswer, nameNumber}
 use Rattle.catalog.specs.declared.AnswerName.{AnswerName}
 use Rattle.catalog.proofs.NameLaws.{other-day}
-use Rattle.store.specs.Layout.{Form, headerSize, entrySize, entryStart, answers, streamLength, streamStart, storeLength, entryDay, entryOffset, entryLength, answerStart, nameAt}
+use Rattle.store.specs.Layout.{Form, headerSize, entrySize, entryStart, answers, streamLength, streamStart, storeLength, entryDay, entryOffset}
+use Rattle.store.specs.Layout.{entryLength, answerStart, nameAt}
 use Rattle.store.specs.Check.{headerFits, countsFit, filledTo, placeRight, placesRight, answerRight, answersRight, repeats, namesDiffer, storeNumber}
 use Rattle.store.proofs.FormLaws.{entry-size, entry-below}
 
@@ -70,7 +71,8 @@ module _ (f : Form) (s : List ℕ) where
 
 -- a name from its two parts
 module _ (f : Form) (s : List ℕ) (i : ℕ) where
-  pub name-is : (start trep day : ℕ) → start ≡ answerStart f i s → trep ≡ getD s (start + 1) 0 → day ≡ entryDay f i s → _≡_ {A = AnswerName} (record { trep = trep; day = day }) (nameAt f i s)
+  pub name-is : (start trep day : ℕ) → start ≡ answerStart f i s → trep ≡ getD s (start + 1) 0 → day ≡ entryDay f i s
+      → _≡_ {A = AnswerName} (record { trep = trep; day = day }) (nameAt f i s)
   unfolding nameAt
   name-is start trep day e t d = rw (t, d, e)
 
@@ -140,7 +142,8 @@ module _ (f : Form) (s : List ℕ) where
   unfolding placesRight
   places-wrong n p h = rw (← p, ← h)
 
-  pub places-end : (n i at t : ℕ) → n ≡ answers f s → t ≡ streamLength f s → i ≤ n → n ≤ i → at ≡ filledTo f i s → true ≡ noneOf (misplaced f s) n → eqb at t ≡ placesRight f s
+  pub places-end : (n i at t : ℕ) → n ≡ answers f s → t ≡ streamLength f s → i ≤ n → n ≤ i → at ≡ filledTo f i s → true ≡ noneOf (misplaced f s) n
+      → eqb at t ≡ placesRight f s
   unfolding placesRight
   places-end n i at t p q a b e h =
       let z : i ≡ n = omega arith in
@@ -169,7 +172,8 @@ module _ (f : Form) (s : List ℕ) (n : ℕ) (p : n ≡ answers f s) (r : Bool) 
   names-by h = rw (← p) h
 
 -- a name among the earlier ones; r is what the search of them gave
-module _ (f : Form) (s : List ℕ) (i : ℕ) (name : AnswerName) (is : name ≡ nameAt f i s) (r : Bool) (found : r ≡ anyOf (λ j. sameAnswer (nameAt f j s) name) i) where
+module _ (f : Form) (s : List ℕ) (i : ℕ) (name : AnswerName) (is : name ≡ nameAt f i s) (r : Bool)
+    (found : r ≡ anyOf (λ j. sameAnswer (nameAt f j s) name) i) where
   repeats-by : r ≡ repeats f i s
   unfolding repeats
   repeats-by = rw (← is) found

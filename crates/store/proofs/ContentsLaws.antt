@@ -187,7 +187,9 @@ module _ (f : Form) (s : List ℕ) (z : storeNumber f s ≡ 0) where
   streamed =
       let l : length (streamOf f s) ≡ streamLength f s = length-part s (streamStart f s) (streamLength f s) (unbroken f s z .within) in
       let e : offsetOf n gs ≡ streamLength f s = rw (← contents-length f s) (offset-all gs) ∙ sym all-filled in
-      sym (take-all (offsetOf n gs) (streamOf f s) (omega arith)) ∙ stream-to n (omega arith) ∙ ap backToBack (take-all n gs (omega (arith, contents-length f s)))
+      sym (take-all (offsetOf n gs) (streamOf f s) (omega arith))
+      ∙ stream-to n (omega arith)
+      ∙ ap backToBack (take-all n gs (omega (arith, contents-length f s)))
 
   pub contents-reads : Reads f (contents f s) s
   contents-reads =

@@ -68,7 +68,8 @@ module _ (gs : List Stored) (g : Stored) where
         elim (decLt (placeOf name gs) (length gs)) as (λ _. (isAmong name more ≡ isAmong name gs) × (answerNamed name more ≡ answerNamed name gs)) [
           | yes l ↦
               let p = found-old l in
-              let a : answerNamed name more ≡ answerNamed name gs = ap (λ (k : ℕ). getD more k nothing .answer) p ∙ ap (λ (x : Stored). x .answer) (more-old (placeOf name gs) l) in
+              let a : answerNamed name more ≡ answerNamed name gs =
+              ap (λ (k : ℕ). getD more k nothing .answer) p ∙ ap (λ (x : Stored). x .answer) (more-old (placeOf name gs) l) in
               (rw p (lt-ltb (placeOf name gs) (length more) (omega arith) ∙ sym (lt-ltb (placeOf name gs) (length gs) l)), a)
           | no l ↦
               let p = found-none (omega arith) other in

@@ -19,7 +19,8 @@ use Rattle.store.proofs.PositionLaws.{missing-not}
 use Rattle.store.proofs.StoreLaws.{unlisted-missing}
 
 -- The search, by the count n that the code read
-pub position-by : (f : Form) (s : List ℕ) (name : AnswerName) (n i : ℕ) → n ≡ answers f s → firstOf (λ j. sameAnswer (nameAt f j s) name) n ≡ i → i ≡ position f name s
+pub position-by : (f : Form) (s : List ℕ) (name : AnswerName) (n i : ℕ) → n ≡ answers f s → firstOf (λ j. sameAnswer (nameAt f j s) name) n ≡ i
+    → i ≡ position f name s
 position-by f s name n i p e = rw (← p) (sym e)
 
 -- A search in a checked store; i is the position, n the count
@@ -35,7 +36,8 @@ module _ (f : Form) (s : List ℕ) (name : AnswerName) (z : storeNumber f s ≡ 
     unfolding lookupPlace lookupNumber
     find-missing h = rw (z, ← p, ← q, le-ltb i n h)
 
-    pub find-found : (b l : ℕ) → i < n → b ≡ answerStart f i s → l ≡ entryLength f i s → _≡_ {A = Place} (record { number = 0; start = b; len = l }) (lookupPlace f name s)
+    pub find-found : (b l : ℕ) → i < n → b ≡ answerStart f i s → l ≡ entryLength f i s
+        → _≡_ {A = Place} (record { number = 0; start = b; len = l }) (lookupPlace f name s)
     unfolding lookupPlace lookupNumber
     find-found b l h bs ls =
         let t : ltb (position f name s) (answers f s) ≡ true = rw (← p, ← q) (lt-ltb i n h) in
@@ -50,10 +52,12 @@ module _ (f : Form) (s : List ℕ) (name : AnswerName) (r : ℕ) (e : r ≡ stor
 
 -- Two of them
 module _ (f : Form) (s : List ℕ) (first second : AnswerName) (r : ℕ) (e : r ≡ storeNumber f s) where
-  pub both-broken : (p : Place) → (r ≡ 0 → ⊥) → p ≡ record { number = r; start = 0; len = 0 } → _≡_ {A = TwoPlaces} (record { number = r; first = p; second = p }) (lookupBoth f first second s)
+  pub both-broken : (p : Place) → (r ≡ 0 → ⊥) → p ≡ record { number = r; start = 0; len = 0 }
+      → _≡_ {A = TwoPlaces} (record { number = r; first = p; second = p }) (lookupBoth f first second s)
   both-broken p z q = rw (← e, ← place-broken f s first r e z, ← place-broken f s second r e z, q)
 
-  pub both-found : (p q : Place) → r ≡ 0 → p ≡ lookupPlace f first s → q ≡ lookupPlace f second s → _≡_ {A = TwoPlaces} (record { number = 0; first = p; second = q }) (lookupBoth f first second s)
+  pub both-found : (p q : Place) → r ≡ 0 → p ≡ lookupPlace f first s → q ≡ lookupPlace f second s
+      → _≡_ {A = TwoPlaces} (record { number = 0; first = p; second = q }) (lookupBoth f first second s)
   both-found p q z a b = rw (← e, z, a, b)
 
 pub number-of-place : (f : Form) (s : List ℕ) (name : AnswerName) (place : Place) → place ≡ lookupPlace f name s → place .number ≡ lookupNumber f name s
@@ -67,7 +71,8 @@ module _ (f : Form) (s : List ℕ) (r : ℕ) (e : r ≡ storeNumber f s) where
   unfolding streamPlace
   stream-broken z = rw (← e, ne-eqb r 0 z)
 
-  pub stream-found : (b t : ℕ) → r ≡ 0 → b ≡ streamStart f s → t ≡ streamLength f s → _≡_ {A = Place} (record { number = 0; start = b; len = t }) (streamPlace f s)
+  pub stream-found : (b t : ℕ) → r ≡ 0 → b ≡ streamStart f s → t ≡ streamLength f s
+      → _≡_ {A = Place} (record { number = 0; start = b; len = t }) (streamPlace f s)
   unfolding streamPlace
   stream-found b t z bs ts = rw (← e, z, bs, ts)
 
@@ -83,7 +88,8 @@ module _ (f : Form) (s : List ℕ) (r : ℕ) (e : r ≡ storeNumber f s) where
       unfolding heldAnswer heldNumber
       held-missing h = rw (← e, z, ← q, le-ltb k n h)
 
-      pub held-found : (name : AnswerName) (b l : ℕ) → k < n → name ≡ nameAt f k s → b ≡ answerStart f k s → l ≡ entryLength f k s → _≡_ {A = HeldAnswer} (record { number = 0; name = name; start = b; len = l }) (heldAnswer f k s)
+      pub held-found : (name : AnswerName) (b l : ℕ) → k < n → name ≡ nameAt f k s → b ≡ answerStart f k s → l ≡ entryLength f k s
+          → _≡_ {A = HeldAnswer} (record { number = 0; name = name; start = b; len = l }) (heldAnswer f k s)
       unfolding heldAnswer heldNumber
       held-found name b l h ns bs ls =
           let t : ltb k (answers f s) ≡ true = rw (← q) (lt-ltb k n h) in

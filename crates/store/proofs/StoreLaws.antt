@@ -92,7 +92,8 @@ module _ (f : Form) where
       let q = and-right (eqb (entryOffset f i s) (filledTo f i s)) _ h in
       (eqb-true _ _ p, leb-true _ _ (and-left (leb 2 (entryLength f i s)) _ q), leb-true _ _ (and-right (leb 2 (entryLength f i s)) _ q))
 
-  pub place-built : (i : ℕ) (s : List ℕ) → entryOffset f i s ≡ filledTo f i s → 2 ≤ entryLength f i s → filledTo f i s + entryLength f i s ≤ streamLength f s → placeRight f i s ≡ true
+  pub place-built : (i : ℕ) (s : List ℕ) → entryOffset f i s ≡ filledTo f i s → 2 ≤ entryLength f i s → filledTo f i s + entryLength f i s ≤ streamLength f s
+      → placeRight f i s ≡ true
   unfolding placeRight
   place-built i s o l w =
       rw (eq-eqb (entryOffset f i s) (filledTo f i s) o, le-leb 2 (entryLength f i s) l, le-leb (filledTo f i s + entryLength f i s) (streamLength f s) w)
@@ -155,7 +156,8 @@ module _ (f : Form) where
         let l : 2 ≤ length x = answer-least in
         let b = answerStart f i s in
         let h = held s zero i below in
-        let first : getD x 0 0 ≡ 0x76 = sym (byte-in b (entryLength f i s) 0 s (omega (arith, h .long))) ∙ ap (λ (k : ℕ). getD s k 0) (add-zero b) ∙ h .begins in
+        let first : getD x 0 0 ≡ 0x76 =
+        sym (byte-in b (entryLength f i s) 0 s (omega (arith, h .long))) ∙ ap (λ (k : ℕ). getD s k 0) (add-zero b) ∙ h .begins in
         let second : getD x 1 0 ≡ getD s (b + 1) 0 = sym (byte-in b (entryLength f i s) 1 s (omega (arith, h .long))) in
         drop-cons x 0 0 (omega arith) ∙ ap (λ (r : List ℕ). getD x 0 0 ∷ r) (drop-cons x 1 0 (omega arith)) ∙ rw (first, second)
 

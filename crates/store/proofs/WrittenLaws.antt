@@ -31,7 +31,8 @@ answer-inside (g ∷ gs) zero h = omega (arith, length-append (g .answer) (backT
 answer-inside (g ∷ gs) (suc i) h =
     omega (arith, answer-inside gs i (omega arith), length-append (g .answer) (backToBack gs), length-append (g .answer) (backToBack (take i gs)))
 
-pub answer-part : (gs : List Stored) (i : ℕ) → i < length gs → partAt (offsetOf i gs) (length (getD gs i nothing .answer)) (backToBack gs) ≡ getD gs i nothing .answer
+pub answer-part : (gs : List Stored) (i : ℕ) → i < length gs
+    → partAt (offsetOf i gs) (length (getD gs i nothing .answer)) (backToBack gs) ≡ getD gs i nothing .answer
 unfolding backToBack
 answer-part [] i h = absurd (omega arith)
 answer-part (g ∷ gs) zero h = take-append-seam (g .answer) (backToBack gs)
@@ -159,7 +160,8 @@ module _ (f : Form) (sized : Sized f) (gs : List Stored) (fit : Holdable f gs) (
 
   streamed : streamOf f s ≡ backToBack gs
   streamed =
-      let l : length (head f gs ++ entriesFrom f 0 gs) ≡ headerSize f + entriesSize f n = length-append (head f gs) (entriesFrom f 0 gs) ∙ omega (arith, head-long f gs, entries-long f 0 gs) in
+      let l : length (head f gs ++ entriesFrom f 0 gs) ≡ headerSize f + entriesSize f n =
+      length-append (head f gs) (entriesFrom f 0 gs) ∙ omega (arith, head-long f gs, entries-long f 0 gs) in
       rw (counted, totalled)
       (ap (partAt (headerSize f + entriesSize f n) t) (at-entries ∙ sym (append-assoc (head f gs) (entriesFrom f 0 gs) (backToBack gs ++ r)))
       ∙ part-here (headerSize f + entriesSize f n) t (head f gs ++ entriesFrom f 0 gs) (backToBack gs) r l refl)

@@ -1,4 +1,5 @@
--- What is claimed of the bench store (document 01, Bench store; House numbers): that it is a list, and that each number is
+-- What is claimed of the bench store (document 01, Bench store; House numbers): that it is a list, and that each number
+-- is
 -- "Given exactly when" its rule says. For every form whose bounds fit its fields; proofs/Claims.antt proves it.
 use Prim.Native.Nat.{ℕ, _<_, _≤_}
 use mathlib.Core.Bool.{false}
@@ -108,6 +109,7 @@ pub record StoreClaims : Type 0 where
   pub numbers : (f : Form) → NumberClaims f
   -- 12 for an answer on its own
   pub twelve : (answer : List ℕ) (day : ℕ) → (answerNumber answer day ≡ notInTable) ↔ Unlisted answer day
-  pub twelveOnly : (answer : List ℕ) (day : ℕ) → (answerNumber answer day ≡ done) ⊎ (answerNumber answer day ≡ notInTable)
+  pub twelveOnly : (answer : List ℕ) (day : ℕ)
+      → (answerNumber answer day ≡ done) ⊎ (answerNumber answer day ≡ notInTable)
   pub list : (f : Form) → Sized f → ListClaims f
   pub narrowForm : NarrowClaims

@@ -24,7 +24,8 @@ pub record Sized (f : Form) : Type 0 where
   pub counts : f .answersMost < 256 ^ f .width
   pub streams : f .streamMost < 256 ^ f .width
 
--- "Two bytes count of answers n (0 to 64), two bytes stream length t (0 to 60,000)"; one answer is bounded by the stream
+-- "Two bytes count of answers n (0 to 64), two bytes stream length t (0 to 60,000)"; one answer is bounded by the
+-- stream
 abbrev pub narrow : Form
 narrow = record { mark = []; width = 2; answersMost = 64; answerMost = 60000; streamMost = 60000 }
 

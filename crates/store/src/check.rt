@@ -12,7 +12,8 @@ ghost use lib.ListN.{length};
 ghost use Rattle.octets.specs.Search.{anyOf};
 ghost use Rattle.catalog.specs.Name.{sameAnswer};
 ghost use Rattle.store.specs.Layout.{narrow, entrySize, entryStart, streamStart, nameAt};
-ghost use Rattle.store.specs.Check.{headerFits, countsFit, placesRight, answerRight, answersRight, namesDiffer, storeNumber};
+ghost use Rattle.store.specs.Check.{headerFits, countsFit, placesRight, answerRight, answersRight, namesDiffer};
+ghost use Rattle.store.specs.Check.{storeNumber};
 
 // Whether the buffer holds its header, and what that says.
 fn header_fits(store: &[u8]) -> bool

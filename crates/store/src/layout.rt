@@ -1,11 +1,13 @@
-// The fields of a store, and the names of its answers. Every number read is bounded, so that no sum of a few of them wraps.
+// The fields of a store, and the names of its answers. Every number read is bounded, so that no sum of a few of them
+// wraps.
 use catalog::AnswerName;
 ghost use mathlib.Core.Path.{_≡_};
 ghost use Prim.Native.Nat.{_+_, _<_, _≤_};
 ghost use lib.ListN.{length};
 ghost use Rattle.octets.specs.BigEndian.{numberAt};
 ghost use Rattle.catalog.specs.Name.{sameAnswer};
-ghost use Rattle.store.specs.Layout.{narrow, entrySize, entryStart, answers, streamLength, streamStart, entryDay, entryOffset, entryLength, answerStart, nameAt};
+ghost use Rattle.store.specs.Layout.{narrow, entrySize, entryStart, answers, streamLength, streamStart, entryDay};
+ghost use Rattle.store.specs.Layout.{entryOffset, entryLength, answerStart, nameAt};
 
 // The width of count, stream length, offset and length.
 pub const FIELD: usize = 2;
@@ -88,7 +90,8 @@ pub(crate) fn name_at(store: &[u8], i: usize) -> AnswerName
     }
 }
 
-// Whether answer `i` has this name. Most names differ in the day already, and it stands in the entry: the answer is read only behind it.
+// Whether answer `i` has this name. Most names differ in the day already, and it stands in the entry: the answer is
+// read only behind it.
 pub(crate) fn has_name(store: &[u8], i: usize, name: AnswerName) -> bool
     requires { ⌜ entryStart narrow i + entrySize narrow ≤ length (now store) ⌝ }
     ensures { λ r. ⌜ r ≡ sameAnswer (nameAt narrow i (now (store .entry))) name ⌝ }

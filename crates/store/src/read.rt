@@ -10,7 +10,8 @@ ghost use Prim.Native.Nat.{_<_, _≤_};
 ghost use lib.ListN.{length};
 ghost use Rattle.store.specs.Layout.{narrow, streamStart};
 ghost use Rattle.store.specs.Check.{storeNumber};
-ghost use Rattle.store.specs.Read.{position, lookupNumber, lookupPlace, lookupBoth, lookupPart, streamPlace, streamPart, heldAnswer};
+ghost use Rattle.store.specs.Read.{position, lookupNumber, lookupPlace, lookupBoth, lookupPart, streamPlace};
+ghost use Rattle.store.specs.Read.{streamPart, heldAnswer};
 
 // Which answer has this name, from 0; the count of answers where none has.
 pub(crate) fn position(store: &[u8], name: AnswerName) -> usize
@@ -28,7 +29,8 @@ pub(crate) fn position(store: &[u8], name: AnswerName) -> usize
     i
 }
 
-// Where the answer with this name lies in a store that was checked: 6 where it is not held. FF is no TREP, and nothing is looked for.
+// Where the answer with this name lies in a store that was checked: 6 where it is not held. FF is no TREP, and nothing
+// is looked for.
 fn find(store: &[u8], name: AnswerName) -> Place
     requires { ⌜ storeNumber narrow (now store) ≡ 0 ⌝ }
     ensures { λ r. ⌜ r ≡ lookupPlace narrow name (now (store .entry)) ⌝ }

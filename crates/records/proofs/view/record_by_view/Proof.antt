@@ -85,7 +85,8 @@ module _ {M : Type 1} (𝓤 : URA M) (H : Heap 𝓤) (A : Atoms 𝓤) (W : Given
         by ! (ends this.ended Says 𝓤 H A W κs qs tt (s, (j, (k, tt))) at (tt, (tt, (tt, tt))) (none 𝓤 3) r (sliceOf r) (e′ ∙ (ap (λ (v : Shown). viewRecord v k) e ∙ view-record j k (now s)))))))))))
 
   walks : Triple 𝓤 (WpFn 𝓤 H C Λ code.function) (Told this.ended Says 𝓤 H A)
-  walks = meets this.ended Says 𝓤 H A (WpFn 𝓤 H C Λ code.function) (λ κs. (slice-vals, (uint-vals w64, (uint-vals w64, tt)))) (λ κs. (shr-slice-tells (named 0) (κs .0) u8, (uint-tells w64, (uint-tells w64, tt))))
+  walks =
+      meets this.ended Says 𝓤 H A (WpFn 𝓤 H C Λ code.function) (λ κs. (slice-vals, (uint-vals w64, (uint-vals w64, tt)))) (λ κs. (shr-slice-tells (named 0) (κs .0) u8, (uint-tells w64, (uint-tells w64, tt))))
       (λ κs qs bounds a are. walk κs qs (a .0) (a .1 .0) (a .1 .1 .0) (are .1 .0 .1) (are .1 .1 .0 .1) (are .0))
 
 pub record-by-view-spec : {M : Type 1} → stated.statement M

@@ -83,7 +83,8 @@ module _ {M : Type 1} (𝓤 : URA M) (H : Heap 𝓤) (A : Atoms 𝓤) (W : Given
         use1 W (‵ (ViewAt κs .own (made found r) (View′.lowered (made found r) ∷ []))) (own-shut 𝓤 H A W (View.the-type (namedLft 1 0 tt κs)) (View′.the-laws (namedLft 1 0 tt κs)) (r, (found .kind, (found .size, (found .count, tt))))) $
         by ! (ends this.ended Says 𝓤 H A W κs qs tt (s, (j, tt)) at (tt, (tt, tt)) (none 𝓤 2) (made found r) (View′.lowered (made found r)) (shows-array j (now s) (now r) found e e′))
 
-    walk : Is B s (sliceOf s ∷ []) → ent 𝓤 (onEntry 𝓤 H A this.signature κs qs (s, (j, tt)) at) (WpFn 𝓤 H C Λ code.function (sliceOf s ∷ vint w64 j ∷ []) (Told this.ended Says 𝓤 H A .post ((κs, qs, tt, (s, (j, tt)), at), tt)))
+    walk : Is B s (sliceOf s ∷ [])
+        → ent 𝓤 (onEntry 𝓤 H A this.signature κs qs (s, (j, tt)) at) (WpFn 𝓤 H C Λ code.function (sliceOf s ∷ vint w64 j ∷ []) (Told this.ended Says 𝓤 H A .post ((κs, qs, tt, (s, (j, tt)), at), tt)))
     walk p =
         qed W ((raw (alive 𝓤 H A this.signature κs qs) ⊛ ‵ (owns (typesAt (this.signature .params) κs) (s, (j, tt)) at)) ∷ []) ∵ enter ! C Λ code.function (sliceOf s ∷ vint w64 j ∷ []) _ $
         alloc1 ! (λ l₀. alloc1 ! (λ l₁. alloc1 ! (λ l₂. alloc1 ! (λ l₃. alloc1 ! (λ l₄. alloc0 ! $ params1 ! $ pass1 ! (init ! 6 refl (shr-slice-lawful 𝓤 H A W (named 0) (κs .0) u8 .typed s _ p .0)) $ pass1 ! (init ! 4 refl (tt, record { fits = fj })) $ pass0 ! $
@@ -93,7 +94,8 @@ module _ {M : Type 1} (𝓤 : URA M) (H : Heap 𝓤) (A : Atoms 𝓤) (W : Given
         calls find.ended Find 𝓤 H A W κs qs tt (s, (j, tt)) at ! fm known-find Found′.lowered (Found′.lowers .val-is)
         (and-then ! (load ! (from ! (stop !)) (look ! 8 refl)) (and-then ! (load ! (from ! (stop !)) (look ! 6 refl)) (no-more !))) (λ found e is.
         -- [what the array owns; the token; what the body owns; _4; …; _3; …]: _4 = records_of(body, _3)
-        let wt : Holds (hasTy Found′.mir (Found′.lowered found)) × WT (Found′.lowered found) = LL.lawful Found.the-type Found′.the-laws 𝓤 H A W .typed found _ is .0 in
+        let wt : Holds (hasTy Found′.mir (Found′.lowered found)) × WT (Found′.lowered found) =
+        LL.lawful Found.the-type Found′.the-laws 𝓤 H A W .typed found _ is .0 in
         land ! (from ! (stop !)) (init ! 5 refl wt) $
         nothing ! $ move ! (1 ∷ 0 ∷ []) $ fjoin ! $ move ! (2 ∷ 0 ∷ []) $ fjoin ! $ move ! (1 ∷ 0 ∷ []) $ join ! $
         calls part.ended Part 𝓤 H A W κs qs tt (s, (found, tt)) (sliceOf s ∷ [], (Found′.lowered found ∷ [], tt)) ! fm known-part sliceOf (shr-slice-tells (named 0) (κs .0) u8)
@@ -107,7 +109,8 @@ module _ {M : Type 1} (𝓤 : URA M) (H : Heap 𝓤) (A : Atoms 𝓤) (W : Given
         move ! (10 ∷ 11 ∷ []) $ free1 ! $ move ! (8 ∷ 9 ∷ []) $ free1 ! $ move ! (6 ∷ 7 ∷ []) $ free1 ! $ move ! (4 ∷ 5 ∷ []) $ free1 ! $ move ! (2 ∷ 3 ∷ []) $ free1 ! $ free0 ! $ by ! (exits found r (wt .1) e e′))))))))
 
   walks : Triple 𝓤 (WpFn 𝓤 H C Λ code.function) (Told this.ended Says 𝓤 H A)
-  walks = meets this.ended Says 𝓤 H A (WpFn 𝓤 H C Λ code.function) (λ κs. (slice-vals, (uint-vals w64, tt))) (λ κs. (shr-slice-tells (named 0) (κs .0) u8, (uint-tells w64, tt)))
+  walks =
+      meets this.ended Says 𝓤 H A (WpFn 𝓤 H C Λ code.function) (λ κs. (slice-vals, (uint-vals w64, tt))) (λ κs. (shr-slice-tells (named 0) (κs .0) u8, (uint-tells w64, tt)))
       (λ κs qs bounds a are. walk κs qs (a .0) (a .1 .0) (are .1 .0 .1) (are .0))
 
 pub view-spec : {M : Type 1} → stated.statement M

@@ -14,7 +14,8 @@ use Rattle.store.proofs.check.named_before.Tie as tie
 ruleset all = (needs, flag-t, flag-f, entry-before, search-start, search-miss, any-hit, any-end)
 
 abbrev Inv-loop : tie.InvT-loop
-Inv-loop store count name j₀ j = (j ≤ count) × (firstOf (λ k. sameAnswer (nameAt narrow k store) name) count ≡ firstFrom (λ k. sameAnswer (nameAt narrow k store) name) (count - j) j)
+Inv-loop store count name j₀ j =
+    (j ≤ count) × (firstOf (λ k. sameAnswer (nameAt narrow k store) name) count ≡ firstFrom (λ k. sameAnswer (nameAt narrow k store) name) (count - j) j)
 
 abbrev μ-loop : tie.MeasureT-loop
 μ-loop store count name j₀ j = count - j

@@ -5,7 +5,8 @@ use Rattle.octets.specs.Search.{firstFrom, firstOf}
 use Rattle.octets.proofs.SearchLaws.{search-start, search-miss, none-hit, none-end}
 use Rattle.store.specs.Layout.{narrow}
 use Rattle.store.specs.Check.{filledTo}
-use Rattle.store.proofs.CheckLaws.{entry-in, misplaced, filled-none, filled-next, place-gap, place-short, place-past, place-here, places-wrong, places-end}
+use Rattle.store.proofs.CheckLaws.{entry-in, misplaced, filled-none, filled-next, place-gap, place-short, place-past, place-here, places-wrong}
+use Rattle.store.proofs.CheckLaws.{places-end}
 use borrow.Author.Needs.{needs}
 use Rattle.store.proofs.check.places_right.Statement.{statement}
 use Rattle.store.proofs.check.places_right.Tie as tie
@@ -13,7 +14,8 @@ use Rattle.store.proofs.check.places_right.Tie as tie
 ruleset wrong = (needs, none-hit, place-gap, place-short, place-past, places-wrong)
 
 abbrev Inv-loop : tie.InvT-loop
-Inv-loop store n t i₀ at₀ i at = (i ≤ n) × (at ≤ t) × (at ≡ filledTo narrow i store) × (firstOf (misplaced narrow store) n ≡ firstFrom (misplaced narrow store) (n - i) i)
+Inv-loop store n t i₀ at₀ i at =
+    (i ≤ n) × (at ≤ t) × (at ≡ filledTo narrow i store) × (firstOf (misplaced narrow store) n ≡ firstFrom (misplaced narrow store) (n - i) i)
 
 abbrev μ-loop : tie.MeasureT-loop
 μ-loop store n t i₀ at₀ i at = n - i

@@ -15,7 +15,8 @@ use Rattle.store.proofs.read.position.Tie as tie
 ruleset all = (needs, flag-t, flag-f, entry-in, search-start, search-hit, search-miss, search-end, position-by)
 
 abbrev Inv-loop : tie.InvT-loop
-Inv-loop store name n i₀ i = (i ≤ n) × (firstOf (λ j. sameAnswer (nameAt narrow j store) name) n ≡ firstFrom (λ j. sameAnswer (nameAt narrow j store) name) (n - i) i)
+Inv-loop store name n i₀ i =
+    (i ≤ n) × (firstOf (λ j. sameAnswer (nameAt narrow j store) name) n ≡ firstFrom (λ j. sameAnswer (nameAt narrow j store) name) (n - i) i)
 
 abbrev μ-loop : tie.MeasureT-loop
 μ-loop store name n i₀ i = n - i
