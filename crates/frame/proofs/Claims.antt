@@ -4,6 +4,7 @@ use mathlib.Core.List.{[], _∷_}
 use Rattle.frame.specs.Frame.{lab, closed}
 use Rattle.frame.specs.Messages.{startFrame}
 use Rattle.frame.specs.Claims.{FrameClaims}
+use Rattle.frame.proofs.FrontLaws.{front-whole, front-part}
 use Rattle.frame.proofs.Theorems.{write-then-check, data-reads-back, start-good, start-data, changed-refused, cut-refused}
 
 start-bytes : startFrame lab ≡ 0x81 ∷ 0xEE ∷ 0xF0 ∷ 0x81 ∷ 0xE0 ∷ []
@@ -20,4 +21,6 @@ claims =
       startData = start-data;
       changedByte = changed-refused;
       cutShort = cut-refused;
+      frontWhole = front-whole;
+      frontPart = front-part;
     }

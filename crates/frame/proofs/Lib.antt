@@ -1,5 +1,6 @@
 -- Laws of frames, for this crate's proofs and for the crates above it.
 pub mod WriteLaws
 pub mod CheckLaws
+pub mod FrontLaws
 pub mod Theorems
 pub mod Claims

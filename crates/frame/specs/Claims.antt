@@ -1,7 +1,7 @@
 -- What is claimed of every frame (document 01, Frames), over any two addresses. proofs/Claims.antt proves it.
 use Prim.Native.Nat.{ℕ, _<_, _≤_}
-use mathlib.Core.List.{List, [], _∷_}
-use mathlib.Core.Logic.{_≢_}
+use mathlib.Core.List.{List, [], _∷_, _++_}
+use mathlib.Core.Logic.{_⊎_, _≢_}
 use mathlib.Core.Path.{_≡_}
 use lib.ListN.{length, getD, take, set}
 use Rattle.frame.specs.declared.End.{End}
@@ -9,6 +9,7 @@ use Rattle.frame.specs.declared.End.the-variants as ends
 use Rattle.frame.specs.declared.Addresses.{Addresses}
 use Rattle.frame.specs.Frame.{lab, frameOf, judged, dataOf}
 use Rattle.frame.specs.Messages.{startFrame}
+use Rattle.frame.specs.Front.{frameLength}
 
 pub record FrameClaims : Type 0 where
   -- a frame written with 1 to 255 data bytes is judged 0 at the end that it goes to
@@ -30,3 +31,9 @@ pub record FrameClaims : Type 0 where
   pub cutShort : (a : Addresses) (end : End) (f : List ℕ) → judged a end f ≡ 0
       → (n : ℕ) → n < length f
       → judged a end (take n f) ≢ 0
+  -- a good frame's length is told whatever stands behind it, and of its first bytes it is told or not told yet
+  pub frontWhole : (a : Addresses) (end : End) (f : List ℕ) → judged a end f ≡ 0
+      → (rest : List ℕ) → frameLength (f ++ rest) ≡ length f
+  pub frontPart : (a : Addresses) (end : End) (f : List ℕ) → judged a end f ≡ 0
+      → (n : ℕ) → 0 < n → n ≤ length f
+      → (frameLength (take n f) ≡ 0) ⊎ (frameLength (take n f) ≡ length f)

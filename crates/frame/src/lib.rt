@@ -1,5 +1,6 @@
 // Frames of the download protocol (document 01, Frames; DDP_002): judging, reading and writing them.
 pub mod check;
+pub mod front;
 pub mod messages;
 pub mod write;
 

@@ -5,3 +5,4 @@ pub mod ToolLaws
 pub mod CallLaws
 pub mod Theorems
 pub mod Claims
+pub mod ReaderLaws

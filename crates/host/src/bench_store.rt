@@ -1,12 +1,24 @@
 // The bench store: the whole buffer is lent, the store is its front.
 use catalog::AnswerName;
+use octets::Counted;
 use octets::Place;
 use octets::Written;
 ghost use mathlib.Core.Path.{_≡_};
 ghost use Rattle.store.specs.Layout.{narrow};
 ghost use Rattle.store.specs.Check.{storeNumber};
-ghost use Rattle.store.specs.Read.{lookupPlace, streamPlace};
+ghost use Rattle.store.specs.Read.{lookupPlace, streamPlace, countHeld, heldAnswer};
 ghost use Rattle.append.specs.Append.{appendResult, appendOut};
+ghost use Rattle.host.specs.Readers.{heldOf};
+
+// One answer of a store: TREP, day and place, or a refusal and zeros.
+#[repr(C)]
+pub struct Held {
+    pub number: u8,
+    pub trep: u8,
+    pub day: u32,
+    pub start: usize,
+    pub len: usize,
+}
 
 // 0 for an unbroken store, else 5.
 #[no_mangle]
@@ -30,6 +42,29 @@ pub extern "C" fn tacho_store_stream(store: &[u8]) -> Place
     ensures { λ r. ⌜ r ≡ streamPlace narrow (now (store .entry)) ⌝ }
 {
     store::read::locate_stream(store)
+}
+
+// How many answers the store holds.
+#[no_mangle]
+pub extern "C" fn tacho_store_count(store: &[u8]) -> Counted
+    ensures { λ r. ⌜ r ≡ countHeld narrow (now (store .entry)) ⌝ }
+{
+    store::read::count(store)
+}
+
+// Answer `k`, from 0: its name, and where it lies.
+#[no_mangle]
+pub extern "C" fn tacho_store_answer(store: &[u8], k: usize) -> Held
+    ensures { λ r. ⌜ r ≡ heldOf (heldAnswer narrow k (now (store .entry))) ⌝ }
+{
+    let held = store::read::held(store, k);
+    Held {
+        number: held.number,
+        trep: held.name.trep,
+        day: held.name.day,
+        start: held.start,
+        len: held.len,
+    }
 }
 
 // Puts an answer last; `len` is the store's new length.

@@ -6,6 +6,7 @@ ghost use mathlib.Core.Path.{_≡_};
 ghost use lib.ListN.{length};
 ghost use Rattle.octets.specs.Sum.{checksumOf};
 ghost use Rattle.frame.specs.Frame.{lab, judged, dataPlace, writeResult, writeOut};
+ghost use Rattle.frame.specs.Front.{frameLength};
 ghost use Rattle.host.specs.Ends.{endOf};
 
 fn end_of(tool: bool) -> End
@@ -28,6 +29,14 @@ pub extern "C" fn tacho_frame_check(frame: &[u8], at_tool: bool) -> u8
     ensures { λ r. ⌜ r ≡ judged lab (endOf «at_tool») (now (frame .entry)) ⌝ }
 {
     frame::check::check(frame, end_of(at_tool))
+}
+
+// The length of the frame at the front of the bytes received so far, 0 while more are needed to tell.
+#[no_mangle]
+pub extern "C" fn tacho_frame_length(received: &[u8]) -> usize
+    ensures { λ r. ⌜ r ≡ frameLength (now (received .entry)) ⌝ }
+{
+    frame::front::frame_length(received)
 }
 
 // Where the data of a good frame lies.

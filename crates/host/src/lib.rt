@@ -4,6 +4,7 @@ pub mod bench_store;
 pub mod frames;
 mod pack_tool;
 mod pack_unit;
+pub mod readers;
 pub mod splitting;
 pub mod tool_calls;
 pub mod unit_calls;

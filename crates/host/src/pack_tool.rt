@@ -47,7 +47,7 @@ pub(crate) fn request_from(byte: u8) -> Request
     Request::Transfer
 }
 
-fn outcome_byte(outcome: Outcome) -> u8
+pub(crate) fn outcome_byte(outcome: Outcome) -> u8
     ensures { λ r. ⌜ r ≡ outcomeByte outcome ⌝ }
 {
     match outcome {
@@ -60,7 +60,7 @@ fn outcome_byte(outcome: Outcome) -> u8
     }
 }
 
-fn code_byte(outcome: Outcome) -> u8
+pub(crate) fn code_byte(outcome: Outcome) -> u8
     ensures { λ r. ⌜ r ≡ codeByte outcome ⌝ }
 {
     match outcome {
@@ -123,7 +123,7 @@ pub(crate) fn pack(state: ToolState, out: &mut [u8])
     octets::buffer::copy_in(out, &bytes);
 }
 
-fn is_state(bytes: &[u8]) -> bool
+pub(crate) fn is_state(bytes: &[u8]) -> bool
     ensures { λ r. ⌜ r ≡ isTool (now (bytes .entry)) ⌝ }
 {
     if bytes.len() != SIZE {

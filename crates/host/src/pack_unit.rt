@@ -12,7 +12,7 @@ ghost use Rattle.host.specs.Packed.{phaseByte, phaseFrom, nameSent, last
 // The bytes of a packed state.
 pub(crate) const SIZE: usize = 11;
 
-fn phase_byte(phase: Phase) -> u8
+pub(crate) fn phase_byte(phase: Phase) -> u8
     ensures { λ r. ⌜ r ≡ phaseByte phase ⌝ }
 {
     match phase {
@@ -90,7 +90,7 @@ pub(crate) fn pack(state: UnitState, out: &mut [u8])
     octets::buffer::copy_in(out, &bytes);
 }
 
-fn is_state(bytes: &[u8]) -> bool
+pub(crate) fn is_state(bytes: &[u8]) -> bool
     ensures { λ r. ⌜ r ≡ isUnit (now (bytes .entry)) ⌝ }
 {
     if bytes.len() != SIZE {

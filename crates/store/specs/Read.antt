@@ -5,9 +5,10 @@ use mathlib.Core.List.{List}
 use lib.Dec.{ltb}
 use Rattle.octets.specs.Order.{unless, orElse}
 use Rattle.octets.specs.Search.{firstOf, anyOf}
-use Rattle.octets.specs.Numbers.{done, notHeld, changedBy, placeBy}
+use Rattle.octets.specs.Numbers.{done, notHeld, changedBy, placeBy, countedBy}
 use Rattle.octets.specs.Buffer.{partAt}
 use Rattle.octets.specs.declared.Place.{Place}
+use Rattle.octets.specs.declared.Counted.{Counted}
 use Rattle.catalog.specs.Name.{sameAnswer}
 use Rattle.catalog.specs.declared.AnswerName.{AnswerName}
 use Rattle.store.specs.declared.HeldAnswer.{HeldAnswer}
@@ -47,6 +48,10 @@ module _ (f : Form) where
 
   unfoldable pub streamPart : List ℕ → List ℕ
   streamPart s = partAt (streamPlace s .start) (streamPlace s .len) s
+
+  -- how many answers it holds
+  unfoldable pub countHeld : List ℕ → Counted
+  countHeld s = countedBy (storeNumber f s) (answers f s)
 
   -- the i-th answer: 5, then 6 where the store has no more answers
   unfoldable pub heldNumber : ℕ → List ℕ → ℕ

@@ -3,6 +3,7 @@ use crate::HeldAnswer;
 use crate::TwoPlaces;
 use catalog::ABSENT;
 use catalog::AnswerName;
+use octets::Counted;
 use octets::Place;
 use octets::numbers::NOT_HELD;
 ghost use mathlib.Core.Path.{_≡_};
@@ -11,7 +12,7 @@ ghost use lib.ListN.{length};
 ghost use Rattle.store.specs.Layout.{narrow, streamStart};
 ghost use Rattle.store.specs.Check.{storeNumber};
 ghost use Rattle.store.specs.Read.{position, lookupNumber, lookupPlace, lookupBoth, lookupPart, streamPlace};
-ghost use Rattle.store.specs.Read.{streamPart, heldAnswer};
+ghost use Rattle.store.specs.Read.{streamPart, countHeld, heldAnswer};
 
 // Which answer has this name, from 0; the count of answers where none has.
 pub(crate) fn position(store: &[u8], name: AnswerName) -> usize
@@ -134,6 +135,20 @@ pub fn stream(store: &[u8]) -> &[u8]
     ensures { λ r. ⌜ now r ≡ streamPart narrow (now (store .entry)) ⌝ }
 {
     octets::buffer::part(store, locate_stream(store))
+}
+
+// How many answers the store holds: 5 for a broken store.
+pub fn count(store: &[u8]) -> Counted
+    ensures { λ r. ⌜ r ≡ countHeld narrow (now (store .entry)) ⌝ }
+{
+    let number = crate::check::check(store);
+    if number != 0 {
+        return Counted { number, count: 0 };
+    }
+    Counted {
+        number: 0,
+        count: crate::layout::answers(store),
+    }
 }
 
 // Answer `k`, from 0: 5 for a broken store, 6 where it holds no more than `k`.

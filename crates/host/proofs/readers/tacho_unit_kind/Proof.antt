@@ -1,0 +1,16 @@
+-- No state, or the number of the state.
+use Rattle.unit.specs.declared.UnitState.{UnitState}
+use Rattle.host.specs.Readers.{unitKind}
+use Rattle.host.proofs.ReaderLaws.{no-state, state-read}
+use borrow.Author.Needs.{needs}
+use Rattle.host.proofs.readers.tacho_unit_kind.Statement.{statement}
+use Rattle.host.proofs.readers.tacho_unit_kind.Tie as tie
+
+pub tacho-unit-kind-spec : {M : Type 1} → statement M
+unfolding unitKind
+tacho-unit-kind-spec = tie.close (tie.spec
+    (λ c κs. search needs)
+    (λ c. search (needs, no-state))
+    (λ c κs. search needs)
+    (λ c κs. search needs)
+    (λ c. search (needs, state-read (λ (u : UnitState). u .kind))))
