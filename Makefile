@@ -1,24 +1,39 @@
-# make test    the gate: every proof from nothing, the must-fail edits, the programs and the C tests
-# make run     a whole download between both ends over a bad line
-# make bench   the proved calls against plain C; make bench-count: instructions by callgrind
-# They need rt (the Rattle kit), gcc and make, bench-count valgrind too; no network.
+# make alone lists the targets. They need rt (the Rattle kit), gcc and make, bench-count valgrind too; no network.
 CFLAGS := -std=c11 -O2 -g -Wall -Wextra -Werror
 CHECKED := -fsanitize=address,undefined -fno-sanitize-recover=undefined
 BUILT := target/host
 ARCHIVE := target/staticlib/libhost.a
+LIBRARY := target/lib/libtacho.a
 SOURCES := crates.txt $(shell find crates -name '*.rt' -o -name '*.antt')
 REFERENCE := $(wildcard host/tests/reference/*.c)
 HEADERS := $(wildcard host/*/*.h host/tests/reference/*.h)
-INCLUDES := -Ihost/include -Ihost/tests/reference
+INCLUDES := -Ihost/include -Ihost/tests/reference -Ihost/demo
+VERSION := $(shell sed -n 's/^#define TACHO_VERSION "\(.*\)"$$/\1/p' host/include/tacho.h)
+PREFIX ?= /usr/local
 PROGRAMS := bench_unit download sample_store
-TESTS := differential download_test
+TESTS := differential download_test line_test slow_peer
 
-.PHONY: test run bench bench-count archive programs tests
+.PHONY: help test run prove bench bench-count library programs tests install clean
+help:
+	@echo "make run            a whole download between both ends over a bad line, from C"
+	@echo "make test           the gate: every proof from nothing, the must-fail edits, the programs and the C tests"
+	@echo "make prove CRATE=x  proves one crate and those below it (without CRATE: all), and runs no edit"
+	@echo "make library        $(LIBRARY), proved where a crate changed"
+	@echo "make install        header, library and pkg-config file to PREFIX ($(PREFIX)); DESTDIR is put in front"
+	@echo "make programs       the demo programs, in $(BUILT)"
+	@echo "make bench          the proved calls against plain C; make bench-count: instructions by callgrind"
+	@echo "make clean          removes target/, all that was proved and built"
+	@echo "scripts/try         a wrong program, and why the prover refuses it"
+
 test:
 	@scripts/test
 
 run: programs
 	@host/demo/run $(BUILT)
+
+prove:
+	@scripts/need rt
+	@rt check $(CRATE)
 
 bench: $(BUILT)/bench
 	@$(BUILT)/bench
@@ -27,29 +42,50 @@ bench-count: $(BUILT)/bench
 	@scripts/need valgrind
 	@host/bench/count $(BUILT)/bench
 
+library: $(LIBRARY)
 programs: $(PROGRAMS:%=$(BUILT)/%)
 tests: $(TESTS:%=$(BUILT)/%)
-
-archive: $(ARCHIVE)
 
 # proved anew where a file of a crate changed; the crates below host are proved beside each other
 $(ARCHIVE): $(SOURCES)
 	@scripts/need rt gcc
 	@mkdir -p $(BUILT)
 	@[ -e target/rlib/tool.rlib ] || echo "proving the library: this takes some minutes the first time"
-	@{ rt check unit tool records && rt staticlib host; } >$(BUILT)/archive.log 2>&1 || { cat $(BUILT)/archive.log; exit 1; }
+	@{ rt check unit tool records append && rt staticlib host; } >$(BUILT)/archive.log 2>&1 || { cat $(BUILT)/archive.log; exit 1; }
 
-$(BUILT)/bench_unit $(BUILT)/download: $(BUILT)/%: host/demo/%.c host/demo/line.c host/demo/options.c host/demo/messages.c $(ARCHIVE) $(HEADERS)
-	@gcc $(CFLAGS) $(INCLUDES) $(filter-out %.h,$^) -o $@
+# the proved calls, and the texts beside them
+$(LIBRARY): $(ARCHIVE) host/lib/text.c host/include/tacho.h
+	@mkdir -p $(@D)
+	@gcc $(CFLAGS) -Ihost/include -c host/lib/text.c -o $(@D)/text.o
+	@cp $(ARCHIVE) $@.part && ar r $@.part $(@D)/text.o && mv $@.part $@
 
-$(BUILT)/sample_store: host/demo/sample_store.c host/demo/messages.c $(ARCHIVE) $(HEADERS)
-	@gcc $(CFLAGS) $(INCLUDES) $(filter-out %.h,$^) -o $@
+install: $(LIBRARY)
+	@install -d $(DESTDIR)$(PREFIX)/include $(DESTDIR)$(PREFIX)/lib/pkgconfig
+	@install -m 644 host/include/tacho.h $(DESTDIR)$(PREFIX)/include/tacho.h
+	@install -m 644 $(LIBRARY) $(DESTDIR)$(PREFIX)/lib/libtacho.a
+	@sed 's|@PREFIX@|$(PREFIX)|; s|@VERSION@|$(VERSION)|' host/lib/tacho.pc.in >$(DESTDIR)$(PREFIX)/lib/pkgconfig/tacho.pc
+	@echo "installed to $(DESTDIR)$(PREFIX): include/tacho.h, lib/libtacho.a, lib/pkgconfig/tacho.pc"
 
-$(BUILT)/differential: host/tests/differential.c host/tests/support.c $(REFERENCE) $(ARCHIVE) $(HEADERS)
-	@gcc $(CFLAGS) $(CHECKED) $(INCLUDES) $(filter-out %.h,$^) -o $@
+$(BUILT)/bench_unit $(BUILT)/download: $(BUILT)/%: host/demo/%.c host/demo/line.c host/demo/options.c $(LIBRARY) $(HEADERS)
+	@mkdir -p $(@D) && gcc $(CFLAGS) $(INCLUDES) $(filter-out %.h,$^) -o $@
 
-$(BUILT)/download_test: host/tests/download.c host/tests/support.c $(REFERENCE) $(ARCHIVE) $(HEADERS)
-	@gcc $(CFLAGS) $(CHECKED) $(INCLUDES) $(filter-out %.h,$^) -o $@
+$(BUILT)/sample_store: host/demo/sample_store.c host/demo/options.c $(LIBRARY) $(HEADERS)
+	@mkdir -p $(@D) && gcc $(CFLAGS) $(INCLUDES) $(filter-out %.h,$^) -o $@
 
-$(BUILT)/bench: host/bench/bench.c $(REFERENCE) $(ARCHIVE) $(HEADERS)
-	@gcc $(CFLAGS) $(INCLUDES) $(filter-out %.h,$^) -o $@
+$(BUILT)/differential: host/tests/differential.c host/tests/support.c $(REFERENCE) $(LIBRARY) $(HEADERS)
+	@mkdir -p $(@D) && gcc $(CFLAGS) $(CHECKED) $(INCLUDES) $(filter-out %.h,$^) -o $@
+
+$(BUILT)/download_test: host/tests/download.c host/tests/support.c $(REFERENCE) $(LIBRARY) $(HEADERS)
+	@mkdir -p $(@D) && gcc $(CFLAGS) $(CHECKED) $(INCLUDES) $(filter-out %.h,$^) -o $@
+
+$(BUILT)/line_test: host/tests/line.c host/demo/line.c $(LIBRARY) $(HEADERS)
+	@mkdir -p $(@D) && gcc $(CFLAGS) $(CHECKED) $(INCLUDES) $(filter-out %.h,$^) -o $@
+
+$(BUILT)/slow_peer: host/tests/slow_peer.c host/demo/options.c $(REFERENCE) $(HEADERS)
+	@mkdir -p $(@D) && gcc $(CFLAGS) $(CHECKED) $(INCLUDES) $(filter-out %.h,$^) -o $@
+
+$(BUILT)/bench: host/bench/bench.c $(REFERENCE) $(LIBRARY) $(HEADERS)
+	@mkdir -p $(@D) && gcc $(CFLAGS) $(INCLUDES) $(filter-out %.h,$^) -o $@
+
+clean:
+	@rm -rf target

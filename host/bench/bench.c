@@ -37,7 +37,7 @@ static volatile size_t sink;
     {                                                                                                                                         \
         uint8_t unit[11] = {2, 1, 0, 3}, tool[15] = {0}, reply[260];                                                                          \
         size_t n = P##_tool_begin(tool, 15, 5, 0x24, 0, out, 260).len;                                                                        \
-        while (tool[1] == TACHO_WAITING) {                                                                                                    \
+        while (tool[1] == TACHO_OUTCOME_WAITING) {                                                                                                    \
             size_t r = P##_unit_step(unit, 11, full, full_len, out, n, reply, 260).len;                                                       \
             n = P##_tool_arrived(tool, 15, reply, r, room, sizeof room, out, 260).len;                                                        \
         }                                                                                                                                     \

@@ -1,83 +1,118 @@
-#define _POSIX_C_SOURCE 200809L
 /* A vehicle unit on the bench: serves a store file over a serial line or a pseudo-terminal. */
 #include "line.h"
-#include "messages.h"
 #include "options.h"
 #include "tacho.h"
 
 #include <stdio.h>
 #include <stdlib.h>
-#include <time.h>
 
 static const char help[] =
     "bench_unit: a teaching vehicle unit that serves a store file\n"
-    "  --store FILE     the bench store (document 01); bytes behind it are not looked at\n"
-    "  --line PATH      the serial port to listen on\n"
+    "  --store FILE     the bench store (docs/PROTOCOL.md); bytes behind it are not looked at\n"
+    "  --line PATH      the serial port to listen on: raw, 8 data bits, one stop bit, 9,600 baud at first; the unit changes the rate\n"
+    "                   where the tool confirms a change\n"
     "  --pty FILE       make a pseudo-terminal instead, and write the path of its other end to FILE\n"
+    "  --rate N         keep the port at this baud rate\n"
+    "  --parity WHICH   even, odd or none (default even: Appendix 6 asks for it, which is not among this\n"
+    "                   build's sources)\n"
     "  --kind N         0 generation 1, 1 generation 2 version 1, 2 generation 2 version 2 (default 2)\n"
+    "  --silence N      so many milliseconds without a byte end a string (P4; default 20)\n"
+    "  --delay N        milliseconds from a request to its reply (P2, 20 to 1,000; default 20)\n"
+    "  --gap N          milliseconds between the bytes of a reply (P1, 0 to 20; default 0)\n"
     "  --lose N --repeat N --spoil N   of a thousand replies (default 0)\n"
     "  --seed N         of the faults (default 1)\n"
     "  --idle N         end after N seconds without a byte (default 10)\n"
     "Ends with status 0 when communication was stopped, 1 when the line was idle or is gone, 2 for bad options or files.\n";
 
-int main(int argc, char **argv)
+/* The rates of link control, 1 to 5. */
+static const unsigned long bauds[] = {0, 9600, 19200, 38400, 57600, 115200};
+
+typedef struct {
+    const char *store, *line, *pty, *parity;
+    unsigned long kind, rate, lose, repeat, spoil, seed, idle, silence, delay, gap;
+    bool help;
+} settings;
+
+static bool read_settings(int argc, char **argv, settings *s)
 {
-    const char *store_path = NULL, *line_path = NULL, *pty_path = NULL;
-    unsigned long kind = 2, lose = 0, repeat = 0, spoil = 0, seed = 1, idle = 10;
-    bool wants_help = false;
-    const option options[] = {
-        {"--store", &store_path, NULL, 0, NULL}, {"--line", &line_path, NULL, 0, NULL}, {"--pty", &pty_path, NULL, 0, NULL},
-        {"--kind", NULL, &kind, 2, NULL},        {"--lose", NULL, &lose, 1000, NULL},   {"--repeat", NULL, &repeat, 1000, NULL},
-        {"--spoil", NULL, &spoil, 1000, NULL},   {"--seed", NULL, &seed, 0xFFFFFFFFUL, NULL},    {"--idle", NULL, &idle, 86400, NULL},
-        {"--help", NULL, NULL, 0, &wants_help},
+    const program_option options[] = {
+        {"store", &s->store, NULL, 0, NULL},     {"line", &s->line, NULL, 0, NULL},        {"pty", &s->pty, NULL, 0, NULL},
+        {"rate", NULL, &s->rate, 230400, NULL},  {"parity", &s->parity, NULL, 0, NULL},    {"kind", NULL, &s->kind, 2, NULL},
+        {"silence", NULL, &s->silence, 10000, NULL}, {"delay", NULL, &s->delay, 60000, NULL}, {"gap", NULL, &s->gap, 1000, NULL},
+        {"lose", NULL, &s->lose, 1000, NULL},    {"repeat", NULL, &s->repeat, 1000, NULL}, {"spoil", NULL, &s->spoil, 1000, NULL},
+        {"seed", NULL, &s->seed, 0xFFFFFFFFUL, NULL}, {"idle", NULL, &s->idle, 86400, NULL}, {"help", NULL, NULL, 0, &s->help},
     };
-    if (!options_read(argc, argv, options, sizeof options / sizeof *options)) return 2;
-    if (wants_help) return fputs(help, stdout) < 0;
-    if (!store_path || !line_path == !pty_path) {
+    if (!options_read(argc, argv, options, sizeof options / sizeof *options, 0)) return false;
+    if (s->help) return true;
+    if (!s->store || !s->line == !s->pty) {
         fputs("--store and one of --line and --pty are needed; --help says more\n", stderr);
-        return 2;
+        return false;
     }
-    if (lose + repeat + spoil > 1000) {
+    if (s->lose + s->repeat + s->spoil > 1000) {
         fputs("--lose, --repeat and --spoil are more than a thousand together\n", stderr);
-        return 2;
+        return false;
     }
-    size_t store_len;
-    uint8_t *store = file_read(store_path, 1 << 20, &store_len), state[TACHO_UNIT_STATE];
-    if (!store) return 2;
-    uint8_t number = tacho_store_check(store, store_len);
-    if (number == 0) number = tacho_unit_fresh((uint8_t)kind, state, sizeof state);
-    if (number) {
-        fprintf(stderr, "%s: %s (%u)\n", store_path, number_text(number), number);
-        return 2;
-    }
-    line l = {.fd = -1, .faults = {(unsigned)lose, (unsigned)repeat, (unsigned)spoil}, .random = seed * 2 + 1};
-    if (pty_path) {
-        char path[128];
-        FILE *f;
-        if (!line_make(&l, path, sizeof path)) return 2;
-        if (!(f = fopen(pty_path, "w")) || fprintf(f, "%s\n", path) < 0 || fclose(f)) {
-            perror(pty_path);
-            return 2;
-        }
-    } else if (!line_open(&l, line_path)) {
-        return 2;
-    }
+    return true;
+}
+
+static bool open_line(line *l, const settings *s)
+{
+    char path[128];
+    if (s->line) return line_open(l, s->line, &(line_port){s->rate ? s->rate : bauds[1], s->parity});
+    if (!line_make(l, path, sizeof path)) return false;
+    size_t n = 0;
+    while (path[n]) n++;
+    path[n] = '\n';
+    return file_write(s->pty, (const unsigned char *)path, n + 1);
+}
+
+/* Serves until communication was stopped, the line is idle or gone: the status. */
+static int serve(line *l, uint8_t *state, const uint8_t *store, size_t store_len, const settings *s)
+{
     unsigned long heard = 0, quiet = 0;
     bool stopped = false;
+    int n = 0;
     /* a closed unit stays for half a second: the tool may start again */
-    while (quiet < (stopped ? 5 : idle * 10)) {
-        uint8_t frame[600], reply[TACHO_FRAME_MOST];
-        int n = line_receive(&l, frame, sizeof frame, 100, false);
-        if (n < 0) nanosleep(&(struct timespec){0, 100000000}, NULL); /* the other end of a pseudo-terminal is not open */
+    while (n >= 0 && quiet < (stopped ? 5 : s->idle * 10)) {
+        uint8_t string[LINE_STRING_MOST], reply[TACHO_FRAME_MOST];
+        n = line_receive(l, string, sizeof string, 100, false);
         quiet = n > 0 ? 0 : quiet + 1;
         if (n <= 0) continue;
         heard++;
-        tacho_written w = tacho_unit_step(state, sizeof state, store, store_len, frame, (size_t)n, reply, sizeof reply);
-        if (w.number == 0 && !line_send(&l, reply, w.len)) break;
-        stopped = state[3] == TACHO_CLOSED;
+        size_t rate = tacho_unit_rate(state, TACHO_UNIT_STATE), phase = tacho_unit_phase(state, TACHO_UNIT_STATE);
+        tacho_written w = tacho_unit_step(state, TACHO_UNIT_STATE, store, store_len, string, (size_t)n, reply, sizeof reply);
+        if (w.number == TACHO_OK && !line_send(l, reply, w.len)) n = -1;
+        size_t now = tacho_unit_rate(state, TACHO_UNIT_STATE);
+        if (s->line && !s->rate && now != rate && !line_set_baud(l, bauds[now])) fprintf(stderr, "unit: no rate of %lu baud here\n", bauds[now]);
+        if (tacho_unit_phase(state, TACHO_UNIT_STATE) != TACHO_PHASE_CLOSED) stopped = false;
+        else if (phase != TACHO_PHASE_CLOSED) stopped = true;
     }
-    printf("unit: %lu strings heard; of its replies %u lost, %u repeated, %u spoiled\n", heard, l.lost, l.repeated, l.spoiled);
-    if (!stopped) fprintf(stderr, "unit: the line was idle for %lu seconds\n", idle);
-    free(store);
+    printf("unit: %lu strings heard; of its replies %u lost, %u repeated, %u spoiled\n", heard, l->lost, l->repeated, l->spoiled);
+    if (n < 0) fputs("unit: the line is gone\n", stderr);
+    else if (!stopped) fprintf(stderr, "unit: the line was idle for %lu seconds\n", s->idle);
     return stopped ? 0 : 1;
+}
+
+int main(int argc, char **argv)
+{
+    settings s = {.parity = "even", .kind = 2, .seed = 1, .idle = 10, .silence = 20, .delay = 20};
+    size_t store_len;
+    uint8_t state[TACHO_UNIT_STATE];
+    if (!read_settings(argc, argv, &s)) return 2;
+    if (s.help) return fputs(help, stdout) < 0;
+    uint8_t *store = file_read(s.store, 1 << 20, &store_len);
+    if (!store) return 2;
+    uint8_t number = tacho_store_check(store, store_len);
+    if (number == TACHO_OK) number = tacho_unit_fresh((uint8_t)s.kind, state, sizeof state);
+    if (number != TACHO_OK) {
+        fprintf(stderr, "%s: %s (%u)\n", s.store, tacho_number_text(number), number);
+        free(store);
+        return 2;
+    }
+    line l = {.fd = -1, .other = -1, .random = s.seed * 2 + 1};
+    l.faults = (line_faults){(unsigned)s.lose, (unsigned)s.repeat, (unsigned)s.spoil};
+    l.times = (line_times){s.silence, s.gap, s.delay};
+    int status = open_line(&l, &s) ? serve(&l, state, store, store_len, &s) : 2;
+    free(store);
+    return status;
 }

@@ -1,6 +1,5 @@
 /* The download tool: asks a unit for answers over a serial line, and writes them to a file as DDP_034 has it. */
 #include "line.h"
-#include "messages.h"
 #include "options.h"
 #include "tacho.h"
 
@@ -11,23 +10,34 @@
 
 static const char help[] =
     "download: downloads answers from a vehicle unit\n"
-    "  --line PATH      the serial port, or the other end of a unit's pseudo-terminal\n"
+    "  --line PATH      the serial port, or the other end of a unit's pseudo-terminal: raw, 8 data bits, one stop bit\n"
+    "  --rate N         baud rate of the port (default 9600)\n"
+    "  --parity WHICH   even, odd or none (default even: Appendix 6 asks for it, which is not among this\n"
+    "                   build's sources)\n"
     "  --answers LIST   what to ask for, in this order: TREPs in hexadecimal, activities with their day in seconds since 1970,\n"
     "                   as 00,31,32@86400,33,24,35\n"
-    "  --out FILE       where the stream goes: each answer as 76, TREP, data, back to back (DDP_034)\n"
-    "  --wait N         milliseconds to wait for a frame (default 60)\n"
+    "  --out FILE       where the stream goes when all was downloaded: each answer as 76, TREP, data, back to back (DDP_034)\n"
+    "  --wait N         milliseconds until a reply begins (P2, at most 1,000; default 1000)\n"
+    "  --silence N      so many milliseconds without a byte end a string (P1; default 20)\n"
+    "  --rest N         milliseconds from a reply to the next request (P3, at least 10; default 10)\n"
+    "  --gap N          milliseconds between the bytes of a request (P4, 5 to 20; default 5)\n"
     "  --tries N        how often a request that got no answer is begun again (default 3)\n"
     "  --lose N --repeat N --spoil N   of a thousand frames (default 0)\n"
     "  --seed N         of the faults (default 2)\n"
-    "Ends with status 0 when all was downloaded, 1 when the unit refused or did not answer, 2 for bad options or files.\n";
+    "Ends with status 0 when all was downloaded, 1 when the unit refused or did not answer or the line is gone, 2 for bad options or files.\n";
 
-static line l = {.fd = -1};
+static line l = {.fd = -1, .other = -1};
 static uint8_t state[TACHO_TOOL_STATE], room[TACHO_ANSWER_MOST];
-static unsigned long wait_ms = 60, tries = 3;
+static unsigned long wait_ms = 1000, tries = 3;
 
 static size_t held(void)
 {
-    return (size_t)state[11] << 24 | (size_t)state[12] << 16 | (size_t)state[13] << 8 | state[14];
+    return tacho_tool_held(state, sizeof state);
+}
+
+static size_t outcome(void)
+{
+    return tacho_tool_outcome(state, sizeof state);
 }
 
 static void progress(const char *what, bool end)
@@ -41,40 +51,43 @@ static void progress(const char *what, bool end)
     }
 }
 
-/* One request to its end: its outcome, or -1 where the line is gone or a call was refused. */
-static int run(uint8_t request, uint8_t trep, uint32_t day, const char *what)
+/* One request to its end; false with a message where the line is gone or a call was refused. */
+static bool run(uint8_t request, uint8_t trep, uint32_t day, const char *what)
 {
-    uint8_t out[TACHO_FRAME_MOST], frame[600];
+    uint8_t out[TACHO_FRAME_MOST], string[LINE_STRING_MOST];
     tacho_written w = tacho_tool_begin(state, sizeof state, request, trep, day, out, sizeof out);
-    while (w.number == 0) {
+    while (w.number == TACHO_OK) {
         if (!line_send(&l, out, w.len)) break;
-        if (state[1] != TACHO_WAITING) return state[1];
-        int n = line_receive(&l, frame, sizeof frame, (unsigned)wait_ms, true);
+        if (outcome() != TACHO_OUTCOME_WAITING) return true;
+        int n = line_receive(&l, string, sizeof string, wait_ms, true);
         if (n < 0) break;
-        if (n > 0) w = tacho_tool_arrived(state, sizeof state, frame, (size_t)n, room, sizeof room, out, sizeof out);
+        if (n > 0) w = tacho_tool_arrived(state, sizeof state, string, (size_t)n, room, sizeof room, out, sizeof out);
         else w = tacho_tool_wait_ended(state, sizeof state, room, sizeof room, out, sizeof out);
-        progress(what, state[1] != TACHO_WAITING);
+        progress(what, outcome() != TACHO_OUTCOME_WAITING);
     }
-    if (w.number) fprintf(stderr, "%s: %s (%u)\n", what, number_text(w.number), w.number);
+    if (w.number) fprintf(stderr, "%s: %s (%u)\n", what, tacho_number_text(w.number), w.number);
     else fprintf(stderr, "%s: the line is gone\n", what);
-    return -1;
+    return false;
 }
 
 /* The same, begun again where no answer came; false with a message. */
 static bool ask(uint8_t request, uint8_t trep, uint32_t day, const char *what)
 {
-    int outcome = TACHO_NO_ANSWER;
-    uint8_t late[600];
-    for (unsigned long i = 0; outcome == TACHO_NO_ANSWER && i < tries; i++) {
+    uint8_t late[LINE_STRING_MOST];
+    for (unsigned long i = 0; i == 0 || (i < tries && outcome() == TACHO_OUTCOME_NO_ANSWER); i++) {
         /* a request is begun on an empty line: what is still on its way is let pass */
-        while (i > 0 && line_receive(&l, late, sizeof late, (unsigned)wait_ms, true) > 0) continue;
-        outcome = run(request, trep, day, what);
+        while (i > 0 && line_receive(&l, late, sizeof late, wait_ms, true) > 0) continue;
+        if (!run(request, trep, day, what)) return false;
     }
-    switch (outcome) {
-    case TACHO_DONE: return true;
-    case TACHO_NO_ANSWER: fprintf(stderr, "%s: no answer after %lu times three sendings\n", what, tries); break;
-    case TACHO_NO_ROOM: fprintf(stderr, "%s: the answer does not fit %d bytes\n", what, TACHO_ANSWER_MOST); break;
-    case TACHO_REFUSED: fprintf(stderr, "%s: the unit says %02X, %s\n", what, state[2], code_text(state[2])); break;
+    switch (outcome()) {
+    case TACHO_OUTCOME_DONE: return true;
+    case TACHO_OUTCOME_NO_ANSWER: fprintf(stderr, "%s: no answer after %lu times three sendings\n", what, tries); break;
+    case TACHO_OUTCOME_NO_ROOM: fprintf(stderr, "%s: the answer does not fit %d bytes\n", what, TACHO_ANSWER_MOST); break;
+    case TACHO_OUTCOME_REFUSED: {
+        uint8_t code = (uint8_t)tacho_tool_code(state, sizeof state);
+        fprintf(stderr, "%s: the unit says %02X, %s\n", what, code, tacho_code_text(code));
+        break;
+    }
     default: break;
     }
     return false;
@@ -98,50 +111,62 @@ static bool next_answer(const char **list, uint8_t *trep, uint32_t *day)
     return true;
 }
 
-static int download(const char *answers, FILE *out)
+/* The stream so far; it goes to the file when all was downloaded. */
+static uint8_t *stream;
+static size_t stream_len;
+
+static bool keep(const uint8_t *bytes, size_t len)
+{
+    uint8_t *longer = realloc(stream, stream_len + len);
+    if (!longer) {
+        fputs("no memory for the stream\n", stderr);
+        return false;
+    }
+    stream = longer;
+    memcpy(stream + stream_len, bytes, len);
+    stream_len += len;
+    return true;
+}
+
+static int download(const char *answers)
 {
     unsigned count = 0;
-    size_t bytes = 0;
-    if (!ask(TACHO_START, 0, 0, "start communication") || !ask(TACHO_OPEN_SESSION, 0, 0, "diagnostic session")
-        || !ask(TACHO_UPLOAD, 0, 0, "request upload"))
+    if (!ask(TACHO_REQUEST_START, 0, 0, "start communication") || !ask(TACHO_REQUEST_SESSION, 0, 0, "diagnostic session")
+        || !ask(TACHO_REQUEST_UPLOAD, 0, 0, "request upload"))
         return 1;
     while (*answers) {
         char what[64];
-        uint8_t trep;
-        uint32_t day;
-        if (!next_answer(&answers, &trep, &day)) {
-            fprintf(stderr, "--answers: '%s' is no list of TREPs\n", answers);
-            return 2;
-        }
-        snprintf(what, sizeof what, day ? "%s %02X, day %u" : "%s %02X", type_text(trep), trep, (unsigned)day);
-        if (!ask(TACHO_TRANSFER, trep, day, what)) return 1;
-        if (fwrite(room, 1, held(), out) != held()) {
-            perror("--out");
-            return 2;
-        }
+        uint8_t trep = 0;
+        uint32_t day = 0;
+        next_answer(&answers, &trep, &day);
+        snprintf(what, sizeof what, day ? "%s %02X, day %u" : "%s %02X", tacho_type_text(trep), trep, (unsigned)day);
+        if (!ask(TACHO_REQUEST_TRANSFER, trep, day, what)) return 1;
+        if (!keep(room, held())) return 2;
         printf("  %-40s %8zu bytes\n", what, held());
         count++;
-        bytes += held();
     }
-    if (!ask(TACHO_EXIT, 0, 0, "transfer exit")) return 1;
+    if (!ask(TACHO_REQUEST_EXIT, 0, 0, "transfer exit")) return 1;
     /* a unit that has stopped is silent, so a lost reply cannot be told from a dead line: everything is downloaded by then */
-    if (run(TACHO_STOP, 0, 0, "stop communication") != TACHO_DONE) fputs("stop communication: not confirmed by the unit\n", stderr);
-    printf("tool: %u answers, %zu bytes; of its frames %u lost, %u repeated, %u spoiled\n", count, bytes, l.lost, l.repeated, l.spoiled);
+    if (!run(TACHO_REQUEST_STOP, 0, 0, "stop communication") || outcome() != TACHO_OUTCOME_DONE)
+        fputs("stop communication: not confirmed by the unit\n", stderr);
+    printf("tool: %u answers, %zu bytes; of its frames %u lost, %u repeated, %u spoiled\n", count, stream_len, l.lost, l.repeated, l.spoiled);
     return 0;
 }
 
 int main(int argc, char **argv)
 {
-    const char *line_path = NULL, *answers = NULL, *out_path = NULL;
-    unsigned long lose = 0, repeat = 0, spoil = 0, seed = 2;
+    const char *line_path = NULL, *answers = NULL, *out_path = NULL, *parity = "even";
+    unsigned long rate = 9600, lose = 0, repeat = 0, spoil = 0, seed = 2;
+    line_times times = {20, 5, 10};
     bool wants_help = false;
-    const option options[] = {
-        {"--line", &line_path, NULL, 0, NULL}, {"--answers", &answers, NULL, 0, NULL}, {"--out", &out_path, NULL, 0, NULL},
-        {"--wait", NULL, &wait_ms, 60000, NULL}, {"--tries", NULL, &tries, 1000, NULL}, {"--lose", NULL, &lose, 1000, NULL},
-        {"--repeat", NULL, &repeat, 1000, NULL}, {"--spoil", NULL, &spoil, 1000, NULL}, {"--seed", NULL, &seed, 0xFFFFFFFFUL, NULL},
-        {"--help", NULL, NULL, 0, &wants_help},
+    const program_option options[] = {
+        {"line", &line_path, NULL, 0, NULL},   {"answers", &answers, NULL, 0, NULL},         {"out", &out_path, NULL, 0, NULL},
+        {"rate", NULL, &rate, 230400, NULL},   {"parity", &parity, NULL, 0, NULL},           {"wait", NULL, &wait_ms, 60000, NULL},
+        {"silence", NULL, &times.silence, 10000, NULL}, {"rest", NULL, &times.rest, 60000, NULL}, {"gap", NULL, &times.gap, 1000, NULL},
+        {"tries", NULL, &tries, 1000, NULL},   {"lose", NULL, &lose, 1000, NULL},            {"repeat", NULL, &repeat, 1000, NULL},
+        {"spoil", NULL, &spoil, 1000, NULL},   {"seed", NULL, &seed, 0xFFFFFFFFUL, NULL},    {"help", NULL, NULL, 0, &wants_help},
     };
-    if (!options_read(argc, argv, options, sizeof options / sizeof *options)) return 2;
+    if (!options_read(argc, argv, options, sizeof options / sizeof *options, 0)) return 2;
     if (wants_help) return fputs(help, stdout) < 0;
     if (!line_path || !answers || !out_path) {
         fputs("--line, --answers and --out are needed; --help says more\n", stderr);
@@ -151,19 +176,22 @@ int main(int argc, char **argv)
         fputs("--lose, --repeat and --spoil are more than a thousand together\n", stderr);
         return 2;
     }
+    for (const char *rest = answers; *rest;) {
+        const char *bad = rest;
+        uint8_t trep;
+        uint32_t day;
+        if (!next_answer(&rest, &trep, &day)) {
+            fprintf(stderr, "--answers: '%s' is no list of TREPs\n", bad);
+            return 2;
+        }
+    }
     l.faults = (line_faults){(unsigned)lose, (unsigned)repeat, (unsigned)spoil};
+    l.times = times;
     l.random = seed * 2 + 1;
     tacho_tool_fresh(state, sizeof state);
-    if (!line_open(&l, line_path)) return 2;
-    FILE *out = fopen(out_path, "wb");
-    if (!out) {
-        perror(out_path);
-        return 2;
-    }
-    int status = download(answers, out);
-    if (fclose(out)) {
-        perror(out_path);
-        return 2;
-    }
+    if (!line_open(&l, line_path, &(line_port){rate, parity})) return 2;
+    int status = download(answers);
+    if (status == 0 && !file_write(out_path, stream, stream_len)) status = 2;
+    free(stream);
     return status;
 }

@@ -13,27 +13,60 @@
 #include <time.h>
 #include <unistd.h>
 
-/* Bytes of one frame follow each other faster than this. */
-enum { SILENCE_MS = 4 };
+static const struct { unsigned long baud; speed_t speed; } speeds[] = {
+    {9600, B9600}, {19200, B19200}, {38400, B38400}, {57600, B57600}, {115200, B115200}, {230400, B230400},
+};
 
-static bool raw(int fd)
+static bool speed_of(unsigned long baud, speed_t *speed)
+{
+    for (size_t i = 0; i < sizeof speeds / sizeof *speeds; i++)
+        if (speeds[i].baud == baud) {
+            *speed = speeds[i].speed;
+            return true;
+        }
+    return false;
+}
+
+/* A pseudo-terminal has no parity, and refuses to be given one. */
+static bool is_pseudo(int fd)
+{
+    char name[64];
+    return ttyname_r(fd, name, sizeof name) == 0 && strncmp(name, "/dev/pts/", 9) == 0;
+}
+
+/* Raw, 8 data bits, one stop bit. */
+static bool set_up(int fd, const line_port *port)
 {
     struct termios t;
-    if (tcgetattr(fd, &t)) return false;
+    speed_t speed;
+    if (tcgetattr(fd, &t) || !speed_of(port->baud, &speed)) return false;
     cfmakeraw(&t);
+    t.c_cflag &= ~(tcflag_t)(CSTOPB | PARENB | PARODD | CRTSCTS);
     t.c_cflag |= CLOCAL | CREAD;
+    if (strcmp(port->parity, "none") && !is_pseudo(fd)) t.c_cflag |= PARENB | (strcmp(port->parity, "odd") ? 0 : PARODD);
+    cfsetispeed(&t, speed);
+    cfsetospeed(&t, speed);
     return tcsetattr(fd, TCSANOW, &t) == 0;
 }
 
-bool line_open(line *l, const char *path)
+bool line_open(line *l, const char *path, const line_port *port)
 {
+    speed_t speed;
+    if (strcmp(port->parity, "even") && strcmp(port->parity, "odd") && strcmp(port->parity, "none")) {
+        fprintf(stderr, "--parity %s: wants even, odd or none\n", port->parity);
+        return false;
+    }
+    if (!speed_of(port->baud, &speed)) {
+        fprintf(stderr, "--rate %lu: wants 9600, 19200, 38400, 57600, 115200 or 230400\n", port->baud);
+        return false;
+    }
     l->fd = open(path, O_RDWR | O_NOCTTY | O_NONBLOCK);
     if (l->fd < 0) {
         fprintf(stderr, "%s: %s\n", path, strerror(errno));
         return false;
     }
-    if (!raw(l->fd)) {
-        fprintf(stderr, "%s: not a serial port or pseudo-terminal\n", path);
+    if (!set_up(l->fd, port)) {
+        fprintf(stderr, "%s: not a serial port or pseudo-terminal, or not one that can be set up so\n", path);
         return false;
     }
     return true;
@@ -42,12 +75,23 @@ bool line_open(line *l, const char *path)
 bool line_make(line *l, char *path, size_t path_len)
 {
     l->fd = posix_openpt(O_RDWR | O_NOCTTY);
-    if (l->fd < 0 || grantpt(l->fd) || unlockpt(l->fd) || ptsname_r(l->fd, path, path_len) || !raw(l->fd)) {
+    if (l->fd >= 0 && !grantpt(l->fd) && !unlockpt(l->fd) && !ptsname_r(l->fd, path, path_len)) l->other = open(path, O_RDWR | O_NOCTTY);
+    if (l->other < 0 || !set_up(l->other, &(line_port){9600, "none"})) {
         fprintf(stderr, "no pseudo-terminal can be made: %s\n", strerror(errno));
         return false;
     }
     fcntl(l->fd, F_SETFL, O_NONBLOCK);
     return true;
+}
+
+bool line_set_baud(line *l, unsigned long baud)
+{
+    struct termios t;
+    speed_t speed;
+    if (!speed_of(baud, &speed) || tcdrain(l->fd) || tcgetattr(l->fd, &t)) return false;
+    cfsetispeed(&t, speed);
+    cfsetospeed(&t, speed);
+    return tcsetattr(l->fd, TCSADRAIN, &t) == 0;
 }
 
 static unsigned draw(line *l)
@@ -58,7 +102,13 @@ static unsigned draw(line *l)
     return (unsigned)(l->random >> 20);
 }
 
-static bool put(line *l, const uint8_t *bytes, size_t len)
+static void pause_ms(unsigned long milliseconds)
+{
+    struct timespec t = {(time_t)(milliseconds / 1000), (long)(milliseconds % 1000) * 1000000};
+    while (nanosleep(&t, &t) && errno == EINTR) continue;
+}
+
+static bool put_all(line *l, const uint8_t *bytes, size_t len)
 {
     while (len > 0) {
         ssize_t n = write(l->fd, bytes, len);
@@ -70,6 +120,17 @@ static bool put(line *l, const uint8_t *bytes, size_t len)
         if (n <= 0) return false;
         bytes += n;
         len -= (size_t)n;
+    }
+    return true;
+}
+
+static bool put(line *l, const uint8_t *bytes, size_t len)
+{
+    if (l->times.rest) pause_ms(l->times.rest);
+    if (!l->times.gap) return put_all(l, bytes, len);
+    for (size_t i = 0; i < len; i++) {
+        if (i) pause_ms(l->times.gap);
+        if (!put_all(l, bytes + i, 1)) return false;
     }
     return true;
 }
@@ -96,21 +157,46 @@ bool line_send(line *l, const uint8_t *frame, size_t len)
     return put(l, frame, len);
 }
 
-/* The length of a whole good frame at the front of what was received, else 0. */
-static size_t good_frame(const line *l, bool at_tool)
+/* The length of a whole good frame at this place of what was received, else 0. */
+static size_t good_at(const line *l, size_t at, bool at_tool)
 {
-    if (l->count < 5) return 0;
-    size_t n = l->bytes[0] == 0x81 ? 5 : (size_t)l->bytes[3] + 5;
-    return n <= l->count && tacho_frame_check(l->bytes, n, at_tool) == 0 ? n : 0;
+    size_t n = tacho_frame_length(l->bytes + at, l->count - at);
+    return n > 0 && n <= l->count - at && tacho_frame_check(l->bytes + at, n, at_tool) == 0 ? n : 0;
+}
+
+/* Whether what stands at the front can no longer become a good frame: it has come whole and is none. */
+static bool broken(const line *l)
+{
+    size_t n = tacho_frame_length(l->bytes, l->count);
+    return n > 0 && n <= l->count;
+}
+
+/* Whether good frames stand from this place on, one at least and nothing behind them but the beginning of another. A good frame among
+ * the data of a broken one is no such place: other data follows it. */
+static bool frames_from(const line *l, size_t at, bool at_tool)
+{
+    size_t n = good_at(l, at, at_tool);
+    if (n == 0) return false;
+    while (n > 0 && (at += n) < l->count) n = good_at(l, at, at_tool);
+    size_t next = tacho_frame_length(l->bytes + at, l->count - at);
+    return at == l->count || next == 0 || next > l->count - at;
+}
+
+/* Where the good frames behind a broken front begin, else the end of what was received. */
+static size_t broken_length(const line *l, bool at_tool)
+{
+    for (size_t at = 1; at < l->count; at++)
+        if (frames_from(l, at, at_tool)) return at;
+    return l->count;
 }
 
 static int hand_out(line *l, uint8_t *out, size_t out_len, size_t n)
 {
-    if (n > out_len) n = out_len;
-    memcpy(out, l->bytes, n);
+    size_t copied = n < out_len ? n : out_len;
+    memcpy(out, l->bytes, copied);
     memmove(l->bytes, l->bytes + n, l->count - n);
     l->count -= n;
-    return (int)n;
+    return (int)copied;
 }
 
 static long now_ms(void)
@@ -120,23 +206,31 @@ static long now_ms(void)
     return (long)t.tv_sec * 1000 + t.tv_nsec / 1000000;
 }
 
-int line_receive(line *l, uint8_t *out, size_t out_len, unsigned milliseconds, bool at_tool)
+/* The string that can be handed out now, its length; 0 while it may go on. quiet: no byte came for the time of a silence. */
+static size_t ready_length(const line *l, bool quiet, bool at_tool)
+{
+    size_t good = good_at(l, 0, at_tool), end;
+    if (good || l->count == 0) return good;
+    if (!quiet && l->count < sizeof l->bytes && !broken(l)) return 0;
+    end = broken_length(l, at_tool);
+    return quiet || end < l->count || l->count == sizeof l->bytes ? end : 0;
+}
+
+int line_receive(line *l, uint8_t *out, size_t out_len, unsigned long milliseconds, bool at_tool)
 {
     long end = now_ms() + (long)milliseconds;
-    for (;;) {
-        size_t n = good_frame(l, at_tool);
+    for (bool quiet = false;;) {
+        size_t n = ready_length(l, quiet, at_tool);
         if (n) return hand_out(l, out, out_len, n);
-        if (l->count == sizeof l->bytes) return hand_out(l, out, out_len, l->count);
-        long left = end - now_ms();
-        if (left < 0) left = 0;
+        long left = l->count ? (long)l->times.silence : end - now_ms();
         struct pollfd p = {l->fd, POLLIN, 0};
-        int ready = poll(&p, 1, l->count ? SILENCE_MS : (int)left);
+        int ready = poll(&p, 1, left < 0 ? 0 : (int)left);
         if (ready < 0 && errno != EINTR) return -1;
-        if (ready <= 0) {
-            if (l->count) return hand_out(l, out, out_len, l->count);
-            if (now_ms() >= end) return 0;
-            continue;
+        if (ready == 0) {
+            if (l->count == 0) return 0;
+            quiet = true;
         }
+        if (ready <= 0) continue;
         ssize_t got = read(l->fd, l->bytes + l->count, sizeof l->bytes - l->count);
         if (got > 0) l->count += (size_t)got;
         else if (got == 0 || (errno != EAGAIN && errno != EINTR)) return -1;

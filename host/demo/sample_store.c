@@ -1,9 +1,8 @@
 /* Writes a sample store of generation 2 version 2: short, split and exactly full answers. */
-#include "messages.h"
+#include "options.h"
 #include "tacho.h"
 
 #include <stdio.h>
-#include <string.h>
 
 static const struct { uint8_t trep; uint32_t day; size_t data; } answers[] = {
     {0x00, 0, 2}, {0x31, 0, 900}, {0x32, 1700006400, 502}, {0x32, 1700092800, 4000}, {0x33, 0, 252}, {0x24, 0, 40000}, {0x35, 0, 1255},
@@ -11,10 +10,13 @@ static const struct { uint8_t trep; uint32_t day; size_t data; } answers[] = {
 
 int main(int argc, char **argv)
 {
-    static uint8_t store[60516], answer[60000];
-    if (argc != 2 || strcmp(argv[1], "--help") == 0) {
-        fputs("sample_store FILE: writes a sample bench store\n", argc == 2 ? stdout : stderr);
-        return argc == 2 ? 0 : 2;
+    static uint8_t store[TACHO_STORE_MOST], answer[TACHO_ANSWER_MOST];
+    static const char help[] = "sample_store FILE: writes a sample bench store\n";
+    bool wants_help = false;
+    if (!options_read(argc, argv, &(program_option){"help", NULL, NULL, 0, &wants_help}, 1, 1)) return 2;
+    if (wants_help || argc != 2) {
+        fputs(help, wants_help ? stdout : stderr);
+        return wants_help ? 0 : 2;
     }
     size_t len = 4;
     for (size_t i = 0; i < sizeof answers / sizeof *answers; i++) {
@@ -23,15 +25,10 @@ int main(int argc, char **argv)
         for (size_t k = 0; k < answers[i].data; k++) answer[2 + k] = (uint8_t)(k * 7 + i);
         tacho_written w = tacho_store_append(store, sizeof store, answer, 2 + answers[i].data, answers[i].day);
         if (w.number) {
-            fprintf(stderr, "%s %02X: %s (%u)\n", type_text(answers[i].trep), answers[i].trep, number_text(w.number), w.number);
+            fprintf(stderr, "%s %02X: %s (%u)\n", tacho_type_text(answers[i].trep), answers[i].trep, tacho_number_text(w.number), w.number);
             return 1;
         }
         len = w.len;
     }
-    FILE *f = fopen(argv[1], "wb");
-    if (!f || fwrite(store, 1, len, f) != len || fclose(f)) {
-        perror(argv[1]);
-        return 2;
-    }
-    return 0;
+    return file_write(argv[1], store, len) ? 0 : 2;
 }

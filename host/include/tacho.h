@@ -4,7 +4,9 @@
  * A teaching vehicle unit, a download tool, frames, splitting, a bench store and a record array reader. Every call ends and stays inside the
  * memory lent to it, for any bytes, lengths and states: nothing has to be checked before a call.
  *
- * A slice is a pointer and then its length; a length of 0 takes any pointer, NULL too. Slices lent to one call must not overlap.
+ * A slice is a pointer and then its length; a length of 0 takes any pointer, NULL too. What is asked of the caller: a pointer has as
+ * many bytes behind it as its length says, and slices lent to one call do not overlap. A call keeps nothing of what it is lent, so
+ * calls on different states and buffers may run at the same time.
  * `number` is 0 where nothing is refused; else it is one of the numbers below, the call has written nothing, and the other fields of its
  * result are zero. Numbers in bytes stand most significant byte first.
  */
@@ -15,9 +17,18 @@
 #include <stddef.h>
 #include <stdint.h>
 
+/* The library is compiled for hosts whose size_t has 64 bits. */
 #ifdef __cplusplus
+static_assert(sizeof(size_t) == 8, "tacho.h is for 64-bit hosts");
 extern "C" {
+#else
+_Static_assert(sizeof(size_t) == 8, "tacho.h is for 64-bit hosts");
 #endif
+
+/* The version of this interface: the first number grows where a name, a layout or a result changes, the second where calls are added. */
+#define TACHO_VERSION_MAJOR 1
+#define TACHO_VERSION_MINOR 0
+#define TACHO_VERSION "1.0"
 
 /* Numbers: why a call is refused. */
 enum {
@@ -37,35 +48,49 @@ enum {
 };
 
 /* Kinds of unit. */
-enum { TACHO_GENERATION_1 = 0, TACHO_GENERATION_2_VERSION_1 = 1, TACHO_GENERATION_2_VERSION_2 = 2 };
+enum { TACHO_KIND_GENERATION_1 = 0, TACHO_KIND_GENERATION_2_VERSION_1 = 1, TACHO_KIND_GENERATION_2_VERSION_2 = 2 };
 
-/* Phases of a unit, byte 3 of its packed state. */
-enum { TACHO_CLOSED = 0, TACHO_STARTED = 1, TACHO_SESSION = 2, TACHO_GRANTED = 3, TACHO_SENDING = 4 };
+/* Phases of a unit: tacho_unit_phase. */
+enum { TACHO_PHASE_CLOSED = 0, TACHO_PHASE_STARTED = 1, TACHO_PHASE_SESSION = 2, TACHO_PHASE_GRANTED = 3, TACHO_PHASE_SENDING = 4 };
 
-/* Requests of the tool, byte 0 of its packed state. */
-enum { TACHO_START = 0, TACHO_OPEN_SESSION = 1, TACHO_UPLOAD = 2, TACHO_EXIT = 3, TACHO_STOP = 4, TACHO_TRANSFER = 5 };
-
-/* How the tool's request stands, byte 1 of its packed state. */
+/* Requests of the tool: tacho_tool_begin. */
 enum {
-    TACHO_FRESH = 0,
-    TACHO_WAITING = 1,
-    TACHO_DONE = 2,
-    TACHO_NO_ANSWER = 3, /* three sendings without a step forward */
-    TACHO_NO_ROOM = 4,   /* the answer does not fit the room */
-    TACHO_REFUSED = 5    /* ended by a wire code, byte 2 of the packed state */
+    TACHO_REQUEST_START = 0,
+    TACHO_REQUEST_SESSION = 1,
+    TACHO_REQUEST_UPLOAD = 2,
+    TACHO_REQUEST_EXIT = 3,
+    TACHO_REQUEST_STOP = 4,
+    TACHO_REQUEST_TRANSFER = 5
+};
+
+/* How the tool's request stands: tacho_tool_outcome. */
+enum {
+    TACHO_OUTCOME_FRESH = 0,
+    TACHO_OUTCOME_WAITING = 1,
+    TACHO_OUTCOME_DONE = 2,
+    TACHO_OUTCOME_NO_ANSWER = 3, /* three sendings without a step forward */
+    TACHO_OUTCOME_NO_ROOM = 4,   /* the answer does not fit the room */
+    TACHO_OUTCOME_REFUSED = 5    /* ended by a wire code: tacho_tool_code */
 };
 
 /* Sizes in bytes. */
 enum {
-    TACHO_UNIT_STATE = 11,    /* kind, rate, pending rate (0 none), phase, TREP, day (4), last number sent (2); the last seven zero unless sending */
-    TACHO_TOOL_STATE = 15,    /* request, outcome, wire code (0 unless refused), TREP, day (4), sendings, expected (2), bytes held (4) */
-    TACHO_FRAME_MOST = 260,   /* the longest frame: outputs of the unit and the tool need as much */
-    TACHO_ANSWER_MOST = 60000 /* the longest answer with its 76 and TREP: a room of as much never runs short */
+    /* a packed unit: kind, rate, pending rate (0 none), phase, TREP, day (4), last number sent (2); the last seven zero unless sending */
+    TACHO_UNIT_STATE = 11,
+    /* a packed tool: request, outcome, wire code (0 unless refused), TREP, day (4), sendings, expected (2), bytes held (4) */
+    TACHO_TOOL_STATE = 15,
+    TACHO_FRAME_MOST = 260,    /* the longest frame: outputs of the unit and the tool need as much */
+    TACHO_ANSWER_MOST = 60000, /* the longest answer with its 76 and TREP: a room of as much never runs short */
+    TACHO_STORE_MOST = 60516   /* the longest bench store: 64 answers and 60,000 bytes of stream */
 };
+
+/* What a reader gives for bytes that are no state. */
+#define TACHO_NO_STATE SIZE_MAX
 
 typedef struct { uint8_t number; size_t len; } tacho_written;            /* len bytes at the front of the output */
 typedef struct { uint8_t number; size_t start; size_t len; } tacho_part; /* that part of the bytes handed in */
 typedef struct { uint8_t number; size_t count; } tacho_counted;
+typedef struct { uint8_t number; uint8_t trep; uint32_t day; size_t start; size_t len; } tacho_held;
 typedef struct { uint8_t number; uint8_t type; uint16_t size; uint16_t count; size_t start; size_t len; } tacho_array;
 
 /* Frames. at_tool: judged at the tool (true) or at the unit (false); to_tool: written to the tool or to the unit. */
@@ -75,6 +100,10 @@ uint8_t tacho_checksum(const uint8_t *bytes, size_t bytes_len);
 
 /* 0 for a good frame, else 1, 2 or 3. */
 uint8_t tacho_frame_check(const uint8_t *frame, size_t frame_len, bool at_tool);
+
+/* Of the bytes received so far, the length of the frame at the front, which may not have come whole yet; 0 while more bytes are needed to
+ * tell. A first byte other than 80 and 81 begins no frame: 1, that byte alone. */
+size_t tacho_frame_length(const uint8_t *received, size_t received_len);
 
 /* The data of a good frame, SID first; of the five-byte start its SID. Refused by 1, 2, 3. */
 tacho_part tacho_frame_data(const uint8_t *frame, size_t frame_len, bool at_tool);
@@ -101,6 +130,12 @@ tacho_part tacho_store_lookup(const uint8_t *store, size_t store_len, uint8_t tr
 /* The stream (DDP_034): all answers back to back. Refused by 5. */
 tacho_part tacho_store_stream(const uint8_t *store, size_t store_len);
 
+/* How many answers the store holds. Refused by 5. */
+tacho_counted tacho_store_count(const uint8_t *store, size_t store_len);
+
+/* Answer k, from zero: its TREP and day, and where it lies in the buffer. Refused by 5, 6 (no more than k answers). */
+tacho_held tacho_store_answer(const uint8_t *store, size_t store_len, size_t k);
+
 /* Puts the answer last; store is the whole buffer, len the store's new length, bytes behind it stay. Refused by 5, 12, 7, 8, 4. */
 tacho_written tacho_store_append(uint8_t *store, size_t store_len, const uint8_t *answer, size_t answer_len, uint32_t day);
 
@@ -124,6 +159,11 @@ uint8_t tacho_unit_fresh(uint8_t kind, uint8_t *state, size_t state_len);
 tacho_written tacho_unit_step(uint8_t *state, size_t state_len, const uint8_t *store, size_t store_len, const uint8_t *frame,
                               size_t frame_len, uint8_t *reply, size_t reply_len);
 
+/* Kind, rate (1 to 5) and phase of a unit; TACHO_NO_STATE for bytes that are no state. */
+size_t tacho_unit_kind(const uint8_t *state, size_t state_len);
+size_t tacho_unit_rate(const uint8_t *state, size_t state_len);
+size_t tacho_unit_phase(const uint8_t *state, size_t state_len);
+
 /* The tool. state: exactly TACHO_TOOL_STATE bytes; len is that of the frame to send, 0 for none. */
 
 /* Writes the state of a fresh tool. Refused by 4. Changes only the first TACHO_TOOL_STATE bytes. */
@@ -140,6 +180,18 @@ tacho_written tacho_tool_arrived(uint8_t *state, size_t state_len, const uint8_t
 
 /* The wait for a frame ended: the frame is sent again, or the request ends. Refused by 11, 4. */
 tacho_written tacho_tool_wait_ended(uint8_t *state, size_t state_len, const uint8_t *room, size_t room_len, uint8_t *out, size_t out_len);
+
+/* How the request stands, the wire code that ended it (0 for none), the sub message expected and the bytes of the answer in the room;
+ * TACHO_NO_STATE for bytes that are no state. */
+size_t tacho_tool_outcome(const uint8_t *state, size_t state_len);
+size_t tacho_tool_code(const uint8_t *state, size_t state_len);
+size_t tacho_tool_expected(const uint8_t *state, size_t state_len);
+size_t tacho_tool_held(const uint8_t *state, size_t state_len);
+
+/* In words: a number of the list above, a wire code, the transfer type of a TREP. Never NULL. */
+const char *tacho_number_text(uint8_t number);
+const char *tacho_code_text(uint8_t code);
+const char *tacho_type_text(uint8_t trep);
 
 #ifdef __cplusplus
 }

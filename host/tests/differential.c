@@ -17,9 +17,9 @@ enum { LONGEST = 60600 };
 
 /* The calls of tacho.h with the numbers of document 01 that each can give, 0 first, then in the order of its checks. */
 typedef enum {
-    CHECKSUM, FRAME_CHECK, FRAME_DATA, FRAME_WRITE, SUB_MESSAGES, SUB_MESSAGE, STORE_CHECK, STORE_LOOKUP, STORE_STREAM,
-    STORE_APPEND, ARRAY_COUNT, ARRAY_AT, RECORD_AT, UNIT_FRESH, UNIT_STEP, TOOL_FRESH, TOOL_BEGIN, TOOL_ARRIVED,
-    TOOL_WAIT_ENDED, CALLS
+    CHECKSUM, FRAME_CHECK, FRAME_LENGTH, FRAME_DATA, FRAME_WRITE, SUB_MESSAGES, SUB_MESSAGE, STORE_CHECK, STORE_LOOKUP, STORE_STREAM,
+    STORE_COUNT, STORE_ANSWER, STORE_APPEND, ARRAY_COUNT, ARRAY_AT, RECORD_AT, UNIT_FRESH, UNIT_STEP, UNIT_KIND, UNIT_RATE, UNIT_PHASE,
+    TOOL_FRESH, TOOL_BEGIN, TOOL_ARRIVED, TOOL_WAIT_ENDED, TOOL_OUTCOME, TOOL_CODE, TOOL_EXPECTED, TOOL_HELD, CALLS
 } call;
 
 enum { NUMBERS = 13, END = -1 };
@@ -30,6 +30,7 @@ static const struct {
 } CALL[CALLS] = {
     [CHECKSUM] = {"tacho_checksum", {0, END}}, /* it gives no number; 0 says that it was called */
     [FRAME_CHECK] = {"tacho_frame_check", {0, 1, 2, 3, END}},
+    [FRAME_LENGTH] = {"tacho_frame_length", {0, END}}, /* so does this one */
     [FRAME_DATA] = {"tacho_frame_data", {0, 1, 2, 3, END}},
     [FRAME_WRITE] = {"tacho_frame_write", {0, 1, 4, END}},
     [SUB_MESSAGES] = {"tacho_sub_messages", {0, 8, END}},
@@ -37,16 +38,25 @@ static const struct {
     [STORE_CHECK] = {"tacho_store_check", {0, 5, END}},
     [STORE_LOOKUP] = {"tacho_store_lookup", {0, 5, 6, END}},
     [STORE_STREAM] = {"tacho_store_stream", {0, 5, END}},
+    [STORE_COUNT] = {"tacho_store_count", {0, 5, END}},
+    [STORE_ANSWER] = {"tacho_store_answer", {0, 5, 6, END}},
     [STORE_APPEND] = {"tacho_store_append", {0, 5, 12, 7, 8, 4, END}},
     [ARRAY_COUNT] = {"tacho_array_count", {0, 9, END}},
     [ARRAY_AT] = {"tacho_array_at", {0, 9, 10, END}},
     [RECORD_AT] = {"tacho_record_at", {0, 9, 10, END}},
     [UNIT_FRESH] = {"tacho_unit_fresh", {0, 11, 4, END}},
     [UNIT_STEP] = {"tacho_unit_step", {0, 5, 11, 4, 1, 2, 3, END}},
+    [UNIT_KIND] = {"tacho_unit_kind", {0, 11, END}}, /* a reader gives no number; 11 stands for TACHO_NO_STATE here */
+    [UNIT_RATE] = {"tacho_unit_rate", {0, 11, END}},
+    [UNIT_PHASE] = {"tacho_unit_phase", {0, 11, END}},
     [TOOL_FRESH] = {"tacho_tool_fresh", {0, 4, END}},
     [TOOL_BEGIN] = {"tacho_tool_begin", {0, 12, 11, 4, END}},
     [TOOL_ARRIVED] = {"tacho_tool_arrived", {0, 11, 4, END}},
     [TOOL_WAIT_ENDED] = {"tacho_tool_wait_ended", {0, 11, 4, END}},
+    [TOOL_OUTCOME] = {"tacho_tool_outcome", {0, 11, END}},
+    [TOOL_CODE] = {"tacho_tool_code", {0, 11, END}},
+    [TOOL_EXPECTED] = {"tacho_tool_expected", {0, 11, END}},
+    [TOOL_HELD] = {"tacho_tool_held", {0, 11, END}},
 };
 
 static unsigned long given[CALLS][NUMBERS];
@@ -101,6 +111,17 @@ static result of_counted(tacho_counted c)
 static result of_part(tacho_part p)
 {
     return (result){p.number, {p.start, p.len}};
+}
+
+static result of_held(tacho_held h)
+{
+    return (result){h.number, {h.start, h.len, h.trep, h.day}};
+}
+
+/* What a reader gave. */
+static result of_read(size_t n)
+{
+    return (result){n == TACHO_NO_STATE ? 11 : 0, {n}};
 }
 
 static result of_array(tacho_array a)
@@ -375,8 +396,8 @@ static size_t some_unit_state(uint8_t *b, const uint8_t *store, size_t store_len
     b[1] = (uint8_t)(random_below(20) ? 1 + random_below(5) : random_below(256));
     b[2] = (uint8_t)(random_below(20) ? random_below(6) : random_below(256));
     b[3] = (uint8_t)(random_below(20) ? random_below(5) : random_below(256));
-    if (count > 0 && random_below(3) == 0) b[3] = TACHO_SENDING;
-    if (b[3] == TACHO_SENDING) some_sending(b, trep, day, count);
+    if (count > 0 && random_below(3) == 0) b[3] = TACHO_PHASE_SENDING;
+    if (b[3] == TACHO_PHASE_SENDING) some_sending(b, trep, day, count);
     if (random_below(20) == 0) damage(b, &n, 16);
     return n;
 }
@@ -388,11 +409,11 @@ static size_t some_tool_state(uint8_t *b)
     uint32_t day = some_day(trep), expected = random_below(4) ? 1 + random_below(3) : random_below(260);
     uint32_t held = expected == 1 ? 0 : 2 + 251 * (expected - 1);
     memset(b, 0, 20);
-    b[0] = (uint8_t)(random_below(3) ? TACHO_TRANSFER : random_below(6));
-    b[1] = (uint8_t)(random_below(4) ? TACHO_WAITING : random_below(6));
-    b[2] = b[1] == TACHO_REFUSED ? (uint8_t)random_below(256) : 0;
+    b[0] = (uint8_t)(random_below(3) ? TACHO_REQUEST_TRANSFER : random_below(6));
+    b[1] = (uint8_t)(random_below(4) ? TACHO_OUTCOME_WAITING : random_below(6));
+    b[2] = b[1] == TACHO_OUTCOME_REFUSED ? (uint8_t)random_below(256) : 0;
     b[8] = (uint8_t)(random_below(20) ? 1 + random_below(3) : random_below(256));
-    if (b[0] == TACHO_TRANSFER || random_below(8) == 0) {
+    if (b[0] == TACHO_REQUEST_TRANSFER || random_below(8) == 0) {
         uint8_t name[5] = {trep, (uint8_t)(day >> 24), (uint8_t)(day >> 16), (uint8_t)(day >> 8), (uint8_t)day};
         memcpy(b + 3, name, 5);
         b[9] = (uint8_t)(expected >> 8), b[10] = (uint8_t)expected;
@@ -437,6 +458,7 @@ static void frames(void)
     compare(CHECKSUM, 1, (result){0, {tacho_checksum(f, n)}}, (result){0, {ref_checksum(copy[0], n)}});
     uint8_t a = tacho_frame_check(f, n, at_tool), b = ref_frame_check(copy[0], n, at_tool);
     compare(FRAME_CHECK, 1, of_number(a), of_number(b));
+    compare(FRAME_LENGTH, 1, (result){0, {tacho_frame_length(f, n)}}, (result){0, {ref_frame_length(copy[0], n)}});
     tacho_part p = tacho_frame_data(f, n, at_tool), q = ref_frame_data(copy[0], n, at_tool);
     compare(FRAME_DATA, 1, of_part(p), of_part(q));
     n = random_below(8) ? some_length(300) : random_below(4);
@@ -493,6 +515,9 @@ static void stores(void)
     compare(STORE_LOOKUP, 1, of_part(p), of_part(q));
     p = tacho_store_stream(s, n), q = ref_store_stream(copy[0], n);
     compare(STORE_STREAM, 1, of_part(p), of_part(q));
+    compare(STORE_COUNT, 1, of_counted(tacho_store_count(s, n)), of_counted(ref_store_count(copy[0], n)));
+    size_t k = random_below(4) ? random_below(5) : random_below(70);
+    compare(STORE_ANSWER, 1, of_held(tacho_store_answer(s, n, k)), of_held(ref_store_answer(copy[0], n, k)));
     appending(n, trep, day);
 }
 
@@ -515,6 +540,9 @@ static void units(void)
     uint8_t a = tacho_unit_fresh(kind, s, fresh_len), b = ref_unit_fresh(kind, copy[0], fresh_len);
     compare(UNIT_FRESH, 1, of_number(a), of_number(b));
     s = lend(0, state, state_len);
+    compare(UNIT_KIND, 1, of_read(tacho_unit_kind(s, state_len)), of_read(ref_unit_kind(copy[0], state_len)));
+    compare(UNIT_RATE, 1, of_read(tacho_unit_rate(s, state_len)), of_read(ref_unit_rate(copy[0], state_len)));
+    compare(UNIT_PHASE, 1, of_read(tacho_unit_phase(s, state_len)), of_read(ref_unit_phase(copy[0], state_len)));
     const uint8_t *store = lend(1, bytes, n);
     for (int step = 0; step < 6; step++) {
         size_t frame_len = some_frame(frame, false, number_of(s, state_len));
@@ -532,9 +560,9 @@ static void units(void)
 
 static void tool_begins(uint8_t *s, size_t state_len, uint8_t *out, size_t out_len)
 {
-    uint8_t request = (uint8_t)(random_below(2) ? TACHO_TRANSFER : random_below(7));
-    uint8_t trep = request == TACHO_TRANSFER || random_below(6) == 0 ? some_trep() : 0;
-    uint32_t day = request == TACHO_TRANSFER || random_below(6) == 0 ? some_day(trep) : 0;
+    uint8_t request = (uint8_t)(random_below(2) ? TACHO_REQUEST_TRANSFER : random_below(7));
+    uint8_t trep = request == TACHO_REQUEST_TRANSFER || random_below(6) == 0 ? some_trep() : 0;
+    uint32_t day = request == TACHO_REQUEST_TRANSFER || random_below(6) == 0 ? some_day(trep) : 0;
     tacho_written w = tacho_tool_begin(s, state_len, request, trep, day, out, out_len);
     tacho_written v = ref_tool_begin(copy[0], state_len, request, trep, day, copy[2], out_len);
     compare(TOOL_BEGIN, 3, of_written(w), of_written(v));
@@ -571,6 +599,10 @@ static void tools(void)
     compare(TOOL_FRESH, 1, of_number(tacho_tool_fresh(s, fresh_len)), of_number(ref_tool_fresh(copy[0], fresh_len)));
     size_t room_len = random_below(3) ? 600 + random_below(400) : some_length(60001);
     s = lend(0, state, state_len);
+    compare(TOOL_OUTCOME, 1, of_read(tacho_tool_outcome(s, state_len)), of_read(ref_tool_outcome(copy[0], state_len)));
+    compare(TOOL_CODE, 1, of_read(tacho_tool_code(s, state_len)), of_read(ref_tool_code(copy[0], state_len)));
+    compare(TOOL_EXPECTED, 1, of_read(tacho_tool_expected(s, state_len)), of_read(ref_tool_expected(copy[0], state_len)));
+    compare(TOOL_HELD, 1, of_read(tacho_tool_held(s, state_len)), of_read(ref_tool_held(copy[0], state_len)));
     uint8_t *room = lend(1, NULL, room_len);
     for (int step = 0; step < 6; step++) {
         size_t out_len = random_below(12) ? 260 + random_below(3) : random_below(260);

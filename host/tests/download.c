@@ -72,8 +72,8 @@ static void choose_answer(void)
 /* The unit holds the answer, and where there is place another one that it may be sending at the begin. */
 static void set_up_unit(void)
 {
-    static const uint8_t granted[TACHO_UNIT_STATE] = {2, 1, 0, TACHO_GRANTED};
-    static const uint8_t sending[TACHO_UNIT_STATE] = {2, 1, 0, TACHO_SENDING, 2, 0, 0, 0, 0, 0, 2};
+    static const uint8_t granted[TACHO_UNIT_STATE] = {2, 1, 0, TACHO_PHASE_GRANTED};
+    static const uint8_t sending[TACHO_UNIT_STATE] = {2, 1, 0, TACHO_PHASE_SENDING, 2, 0, 0, 0, 0, 0, 2};
     static uint8_t other[600];
     bool place = answer_len + sizeof other <= 60000;
     memset(store, 0, sizeof store);
@@ -100,7 +100,7 @@ static void set_up(void)
     p = put_out_before = arrivals = 0;
     f = 0;
     tacho_tool_fresh(tool, sizeof tool);
-    tacho_written w = tacho_tool_begin(tool, sizeof tool, TACHO_TRANSFER, trep, day, out, sizeof out);
+    tacho_written w = tacho_tool_begin(tool, sizeof tool, TACHO_REQUEST_TRANSFER, trep, day, out, sizeof out);
     if (w.number) fail("the begin is refused by %u", w.number);
     push(&to_unit, out, w.len);
     put_out = w.len > 0;
@@ -116,9 +116,9 @@ static bool ended(void)
 static void check_outcome(void)
 {
     unsigned outcome = tool[1];
-    if ((outcome == TACHO_DONE) != (p == q)) fail("the tool's outcome is %u at frame %zu of %zu", outcome, p, q);
-    if ((outcome == TACHO_NO_ANSWER) != (f == 3)) fail("the tool's outcome is %u after %u failed waits", outcome, f);
-    if (!ended() && outcome != TACHO_WAITING) fail("the tool's outcome is %u, and the book has not ended", outcome);
+    if ((outcome == TACHO_OUTCOME_DONE) != (p == q)) fail("the tool's outcome is %u at frame %zu of %zu", outcome, p, q);
+    if ((outcome == TACHO_OUTCOME_NO_ANSWER) != (f == 3)) fail("the tool's outcome is %u after %u failed waits", outcome, f);
+    if (!ended() && outcome != TACHO_OUTCOME_WAITING) fail("the tool's outcome is %u, and the book has not ended", outcome);
 }
 
 /* The tool holds 76, TREP and the data of frames 1 to p; no byte behind those has changed, in the room or past it. */
@@ -137,7 +137,7 @@ static void check_state(void)
 {
     uint8_t name[5] = {trep, (uint8_t)(day >> 24), (uint8_t)(day >> 16), (uint8_t)(day >> 8), (uint8_t)day};
     size_t expected = (size_t)tool[9] << 8 | tool[10], sendings = put_out - put_out_before;
-    if (tool[0] != TACHO_TRANSFER || memcmp(tool + 3, name, sizeof name)) fail("the request, TREP or day has changed");
+    if (tool[0] != TACHO_REQUEST_TRANSFER || memcmp(tool + 3, name, sizeof name)) fail("the request, TREP or day has changed");
     if (tool[2] != 0) fail("the tool has a wire code, %02X, and was not refused", tool[2]);
     if (tool[8] != sendings) fail("the tool counts %u sendings, %zu frames were put out", tool[8], sendings);
     if (expected != (p < q ? p + 1 : q)) fail("number %zu is expected, %zu of %zu frames are taken", expected, p, q);
@@ -215,8 +215,8 @@ static void wait_ends(void)
  * is another one than the test's, so that check() sees where a refused begin writes it. */
 static void begin_refused(void)
 {
-    uint8_t out[TACHO_FRAME_MOST], request = random_below(2) ? TACHO_TRANSFER : TACHO_STOP;
-    uint8_t other = request == TACHO_TRANSFER ? 0x01 : 0;
+    uint8_t out[TACHO_FRAME_MOST], request = random_below(2) ? TACHO_REQUEST_TRANSFER : TACHO_REQUEST_STOP;
+    uint8_t other = request == TACHO_REQUEST_TRANSFER ? 0x01 : 0;
     unsigned wanted = ended() ? TACHO_BUFFER_SHORT : TACHO_OUT_OF_TURN;
     tacho_written w = tacho_tool_begin(tool, sizeof tool, request, other, 0, out, TACHO_FRAME_MOST - 1);
     if (w.number != wanted) fail("a begin with a short output gave %u, wanted %u", w.number, wanted);
@@ -261,8 +261,8 @@ static void bad_line(void)
         else at_tool();
         check();
     }
-    done += tool[1] == TACHO_DONE;
-    gave_up += tool[1] == TACHO_NO_ANSWER;
+    done += tool[1] == TACHO_OUTCOME_DONE;
+    gave_up += tool[1] == TACHO_OUTCOME_NO_ANSWER;
 }
 
 /* Done comes at arrival q: check() lets no tool be done before, and this loop none wait longer. */
@@ -270,14 +270,14 @@ static void clean_line(void)
 {
     set_up();
     check();
-    while (tool[1] == TACHO_WAITING) {
+    while (tool[1] == TACHO_OUTCOME_WAITING) {
         if (to_unit.count + to_tool.count == 0) fail("a clean line is empty before the end");
         if (arrivals == q) fail("not done at arrival %zu", q);
         if (random_below(2)) at_unit(TACHO_FRAME_MOST);
         else at_tool();
         check();
     }
-    if (tool[1] != TACHO_DONE) fail("the tool's outcome on a clean line is %u", tool[1]);
+    if (tool[1] != TACHO_OUTCOME_DONE) fail("the tool's outcome on a clean line is %u", tool[1]);
 }
 
 int main(int argc, char **argv)

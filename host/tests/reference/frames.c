@@ -70,3 +70,13 @@ tacho_written ref_sub_message(const uint8_t *data, size_t n, uint8_t trep, uint1
     size_t len = n - at < 251 ? n - at : 251;
     return frame_of(head, 4, data + at, len, true, out, out_len);
 }
+
+size_t ref_frame_length(const uint8_t *received, size_t len)
+{
+    if (len == 0) return 0;
+    switch (received[0]) {
+    case 0x81: return 5;
+    case 0x80: return len < 4 ? 0 : (size_t)received[3] + 5;
+    default: return 1;
+    }
+}

@@ -93,6 +93,21 @@ tacho_part ref_store_stream(const uint8_t *s, size_t len)
     return (tacho_part){0, 4 + 8 * (size_t)ref_be16(s), ref_be16(s + 2)};
 }
 
+tacho_counted ref_store_count(const uint8_t *s, size_t len)
+{
+    uint8_t number = ref_store_check(s, len);
+    return (tacho_counted){number, number ? 0 : ref_be16(s)};
+}
+
+tacho_held ref_store_answer(const uint8_t *s, size_t len, size_t k)
+{
+    uint8_t number = ref_store_check(s, len);
+    if (number) return (tacho_held){.number = number};
+    if (k >= ref_be16(s)) return (tacho_held){.number = 6};
+    const uint8_t *a = answer(s, k);
+    return (tacho_held){0, a[1], ref_be32(entry(s, k)), (size_t)(a - s), ref_be16(entry(s, k) + 6)};
+}
+
 tacho_written ref_store_append(uint8_t *s, size_t len, const uint8_t *a, size_t a_len, uint32_t day)
 {
     if (ref_store_check(s, len)) return (tacho_written){5, 0};

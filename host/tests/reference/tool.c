@@ -22,7 +22,7 @@ static bool unpack(const uint8_t *s, size_t len, tool *t)
 {
     if (len != TACHO_TOOL_STATE || s[0] > 5 || s[1] > 5) return false;
     *t = (tool){s[0], s[1], s[2], s[3], ref_be32(s + 4), s[8], ref_be16(s + 9), ref_be32(s + 11)};
-    return t->outcome == TACHO_REFUSED || t->code == 0;
+    return t->outcome == TACHO_OUTCOME_REFUSED || t->code == 0;
 }
 
 static void pack(const tool *t, uint8_t *s)
@@ -36,8 +36,8 @@ static void pack(const tool *t, uint8_t *s)
 /* A state that waits and may do so, with a room of that length. */
 static bool waits(const tool *t, size_t room_len)
 {
-    if (t->outcome != TACHO_WAITING || t->sendings < 1 || t->sendings > 3) return false;
-    if (t->request != TACHO_TRANSFER) return true;
+    if (t->outcome != TACHO_OUTCOME_WAITING || t->sendings < 1 || t->sendings > 3) return false;
+    if (t->request != TACHO_REQUEST_TRANSFER) return true;
     if (!ref_named(t->trep, t->day) || t->expected == 0) return false;
     uint64_t held = t->expected == 1 ? 0 : 2 + 251 * (uint64_t)(t->expected - 1);
     return t->held == held && held <= room_len && held <= 60000;
@@ -50,11 +50,11 @@ static size_t send_frame(const tool *t, uint8_t *out)
     uint8_t d[6] = {0x36, t->trep, (uint8_t)(t->day >> 24), (uint8_t)(t->day >> 16), (uint8_t)(t->day >> 8), (uint8_t)t->day};
     uint8_t ack[4] = {0x83, 0x76, (uint8_t)(t->expected >> 8), (uint8_t)t->expected};
     switch (t->request) {
-    case TACHO_START: memcpy(out, start, 5); return 5;
-    case TACHO_OPEN_SESSION: return ref_frame_write((const uint8_t[]){0x10, 0x81}, 2, false, out, 260).len;
-    case TACHO_UPLOAD: return ref_frame_write(upload, 10, false, out, 260).len;
-    case TACHO_EXIT: return ref_frame_write((const uint8_t[]){0x37}, 1, false, out, 260).len;
-    case TACHO_STOP: return ref_frame_write((const uint8_t[]){0x82}, 1, false, out, 260).len;
+    case TACHO_REQUEST_START: memcpy(out, start, 5); return 5;
+    case TACHO_REQUEST_SESSION: return ref_frame_write((const uint8_t[]){0x10, 0x81}, 2, false, out, 260).len;
+    case TACHO_REQUEST_UPLOAD: return ref_frame_write(upload, 10, false, out, 260).len;
+    case TACHO_REQUEST_EXIT: return ref_frame_write((const uint8_t[]){0x37}, 1, false, out, 260).len;
+    case TACHO_REQUEST_STOP: return ref_frame_write((const uint8_t[]){0x82}, 1, false, out, 260).len;
     default:
         if (t->expected > 1) return ref_frame_write(ack, 4, false, out, 260).len;
         return ref_frame_write(d, ref_activities(t->trep) ? 6 : 2, false, out, 260).len;
@@ -65,9 +65,9 @@ tacho_written ref_tool_begin(uint8_t *state, size_t state_len, uint8_t request, 
 {
     tool t;
     if (request > 5 || (request == 5 ? !ref_named(trep, day) : trep != 0 || day != 0)) return (tacho_written){12, 0};
-    if (!unpack(state, state_len, &t) || t.outcome == TACHO_WAITING) return (tacho_written){11, 0};
+    if (!unpack(state, state_len, &t) || t.outcome == TACHO_OUTCOME_WAITING) return (tacho_written){11, 0};
     if (out_len < 260) return (tacho_written){4, 0};
-    t = (tool){request, TACHO_WAITING, 0, trep, day, 1, 1, 0};
+    t = (tool){request, TACHO_OUTCOME_WAITING, 0, trep, day, 1, 1, 0};
     pack(&t, state);
     return (tacho_written){0, send_frame(&t, out)};
 }
@@ -75,7 +75,7 @@ tacho_written ref_tool_begin(uint8_t *state, size_t state_len, uint8_t request, 
 static size_t failed_wait(tool *t, uint8_t *out)
 {
     if (t->sendings == 3) {
-        t->outcome = TACHO_NO_ANSWER;
+        t->outcome = TACHO_OUTCOME_NO_ANSWER;
         return 0;
     }
     t->sendings++;
@@ -87,7 +87,7 @@ static bool hold(tool *t, const uint8_t *a, size_t a_len, const uint8_t *b, size
 {
     size_t end = t->held + a_len + b_len;
     if (end > room_len || end > 60000) {
-        t->outcome = TACHO_NO_ROOM;
+        t->outcome = TACHO_OUTCOME_NO_ROOM;
         return false;
     }
     if (a_len) memcpy(room + t->held, a, a_len);
@@ -100,7 +100,7 @@ static size_t on_answer(tool *t, const uint8_t *d, size_t n, uint8_t *room, size
 {
     if (n < 2 || d[0] != 0x76 || d[1] != t->trep) return 0;
     if (t->expected == 1 && n < 255) {
-        if (hold(t, d, n, NULL, 0, room, room_len)) t->outcome = TACHO_DONE;
+        if (hold(t, d, n, NULL, 0, room, room_len)) t->outcome = TACHO_OUTCOME_DONE;
         return 0;
     }
     if (n < 4 || ref_be16(d + 2) < t->expected) return 0;
@@ -108,7 +108,7 @@ static size_t on_answer(tool *t, const uint8_t *d, size_t n, uint8_t *room, size
     if (!hold(t, d, t->expected == 1 ? 2 : 0, d + 4, n - 4, room, room_len))
         return ref_frame_write((const uint8_t[]){0x83, 0x76, 0xFF, 0xFF}, 4, false, out, 260).len;
     if (n < 255) {
-        t->outcome = TACHO_DONE;
+        t->outcome = TACHO_OUTCOME_DONE;
         return 0;
     }
     t->expected++;
@@ -121,16 +121,16 @@ static size_t on_data(tool *t, const uint8_t *d, size_t n, uint8_t *room, size_t
     static const uint8_t sids[5] = {0x81, 0x10, 0x35, 0x37, 0x82};
     static const uint8_t replies[5][3] = {{0xC1, 0xEA, 0x8F}, {0x50, 0x81}, {0x75, 0x00, 0xFF}, {0x77}, {0xC2}};
     static const size_t lengths[5] = {3, 2, 3, 1, 1};
-    bool transfer = t->request == TACHO_TRANSFER;
+    bool transfer = t->request == TACHO_REQUEST_TRANSFER;
     uint8_t sid = transfer ? (t->expected == 1 ? 0x36 : 0x83) : sids[t->request];
     if (n == 3 && d[0] == 0x7F && d[1] == sid) {
         if (d[2] == 0x78) return 0;
-        t->outcome = TACHO_REFUSED;
+        t->outcome = TACHO_OUTCOME_REFUSED;
         t->code = d[2];
         return 0;
     }
     if (transfer) return on_answer(t, d, n, room, room_len, out);
-    if (n == lengths[t->request] && memcmp(d, replies[t->request], n) == 0) t->outcome = TACHO_DONE;
+    if (n == lengths[t->request] && memcmp(d, replies[t->request], n) == 0) t->outcome = TACHO_OUTCOME_DONE;
     return 0;
 }
 
@@ -155,4 +155,28 @@ tacho_written ref_tool_wait_ended(uint8_t *state, size_t state_len, const uint8_
     size_t len = failed_wait(&t, out);
     pack(&t, state);
     return (tacho_written){0, len};
+}
+
+size_t ref_tool_outcome(const uint8_t *state, size_t len)
+{
+    tool t;
+    return unpack(state, len, &t) ? t.outcome : TACHO_NO_STATE;
+}
+
+size_t ref_tool_code(const uint8_t *state, size_t len)
+{
+    tool t;
+    return unpack(state, len, &t) ? t.code : TACHO_NO_STATE;
+}
+
+size_t ref_tool_expected(const uint8_t *state, size_t len)
+{
+    tool t;
+    return unpack(state, len, &t) ? t.expected : TACHO_NO_STATE;
+}
+
+size_t ref_tool_held(const uint8_t *state, size_t len)
+{
+    tool t;
+    return unpack(state, len, &t) ? t.held : TACHO_NO_STATE;
 }

@@ -24,12 +24,12 @@ static bool unpack(const uint8_t *s, size_t len, unit *u)
 {
     if (len != TACHO_UNIT_STATE || s[3] > 4) return false;
     *u = (unit){s[0], s[1], s[2], s[3], s[4], ref_be32(s + 5), ref_be16(s + 9)};
-    return u->phase == TACHO_SENDING || (u->trep == 0 && u->day == 0 && u->last == 0);
+    return u->phase == TACHO_PHASE_SENDING || (u->trep == 0 && u->day == 0 && u->last == 0);
 }
 
 static void pack(const unit *u, uint8_t *s)
 {
-    bool sending = u->phase == TACHO_SENDING;
+    bool sending = u->phase == TACHO_PHASE_SENDING;
     uint32_t day = sending ? u->day : 0, last = sending ? u->last : 0;
     uint8_t b[TACHO_UNIT_STATE] = {u->kind, u->rate, u->pending, u->phase, sending ? u->trep : 0, (uint8_t)(day >> 24), (uint8_t)(day >> 16),
                                    (uint8_t)(day >> 8), (uint8_t)day, (uint8_t)(last >> 8), (uint8_t)last};
@@ -44,7 +44,7 @@ static size_t frames_of(size_t answer_len)
 static bool possible(const unit *u, const uint8_t *store)
 {
     if (u->kind > 2 || u->rate < 1 || u->rate > 5 || u->pending > 5) return false;
-    if (u->phase != TACHO_SENDING) return true;
+    if (u->phase != TACHO_PHASE_SENDING) return true;
     tacho_part a = ref_store_find(store, u->trep, u->day);
     return a.number == 0 && a.len - 2 > 252 && u->last >= 1 && u->last <= frames_of(a.len);
 }
@@ -71,14 +71,14 @@ static size_t on_rate(unit *u, const uint8_t *d, size_t n, uint8_t pending, uint
     if (d[1] == 1) {
         if (n != 4) return refuse(0x87, 0x13, reply);
         if (d[2] != 1 || d[3] < 1 || d[3] > 5) return refuse(0x87, 0x31, reply);
-        if (u->phase != TACHO_SESSION) return refuse(0x87, 0x22, reply);
+        if (u->phase != TACHO_PHASE_SESSION) return refuse(0x87, 0x22, reply);
         u->pending = d[3];
         return say((const uint8_t[]){0xC7, 0x01}, 2, reply);
     }
     if (d[1] != 2) return refuse(0x87, 0x12, reply);
     if (n != 3) return refuse(0x87, 0x13, reply);
     if (d[2] != 3) return refuse(0x87, 0x31, reply);
-    if (u->phase != TACHO_SESSION || pending == 0) return refuse(0x87, 0x22, reply);
+    if (u->phase != TACHO_PHASE_SESSION || pending == 0) return refuse(0x87, 0x22, reply);
     u->rate = pending;
     return 0;
 }
@@ -91,11 +91,11 @@ static size_t on_transfer(unit *u, const uint8_t *store, const uint8_t *d, size_
     if (n != (dated ? 6u : 2u)) return refuse(0x36, 0x13, reply);
     uint32_t day = dated ? ref_be32(d + 2) : 0;
     if (day % 86400) return refuse(0x36, 0x31, reply);
-    if (u->phase < TACHO_GRANTED) return refuse(0x36, 0x22, reply);
+    if (u->phase < TACHO_PHASE_GRANTED) return refuse(0x36, 0x22, reply);
     tacho_part a = ref_store_find(store, d[1], day);
     if (a.number) return refuse(0x36, 0xFA, reply);
     bool split = a.len - 2 > 252;
-    u->phase = split ? TACHO_SENDING : TACHO_GRANTED;
+    u->phase = split ? TACHO_PHASE_SENDING : TACHO_PHASE_GRANTED;
     u->trep = d[1];
     u->day = day;
     u->last = 1;
@@ -106,7 +106,7 @@ static size_t on_acknowledge(unit *u, const uint8_t *store, const uint8_t *d, si
 {
     if (n != 4) return refuse(0x83, 0x13, reply);
     if (d[1] != 0x76) return refuse(0x83, 0x31, reply);
-    if (u->phase != TACHO_SENDING) return refuse(0x83, 0x22, reply);
+    if (u->phase != TACHO_PHASE_SENDING) return refuse(0x83, 0x22, reply);
     tacho_part a = ref_store_find(store, u->trep, u->day);
     uint32_t code = ref_be16(d + 2);
     if (code == u->last) return send_part(store, a, code, reply);
@@ -116,7 +116,7 @@ static size_t on_acknowledge(unit *u, const uint8_t *store, const uint8_t *d, si
         return send_part(store, a, code, reply);
     }
     if (code != 0xFFFF) return refuse(0x83, 0x22, reply);
-    u->phase = TACHO_GRANTED;
+    u->phase = TACHO_PHASE_GRANTED;
     return 0;
 }
 
@@ -130,24 +130,24 @@ static size_t hear(unit *u, const uint8_t *store, const uint8_t *d, size_t n, ui
         if (n < 2) return refuse(0x10, 0x13, reply);
         if (d[1] != 0x81) return refuse(0x10, 0x12, reply);
         if (n != 2) return refuse(0x10, 0x13, reply);
-        u->phase = TACHO_SESSION;
+        u->phase = TACHO_PHASE_SESSION;
         return say((const uint8_t[]){0x50, 0x81}, 2, reply);
     case 0x87: return on_rate(u, d, n, pending, reply);
     case 0x35:
         if (n != 10) return refuse(0x35, 0x13, reply);
         if (memcmp(d, upload, 10)) return refuse(0x35, 0x31, reply);
-        if (u->phase < TACHO_SESSION) return refuse(0x35, 0x22, reply);
-        u->phase = TACHO_GRANTED;
+        if (u->phase < TACHO_PHASE_SESSION) return refuse(0x35, 0x22, reply);
+        u->phase = TACHO_PHASE_GRANTED;
         return say((const uint8_t[]){0x75, 0x00, 0xFF}, 3, reply);
     case 0x36: return on_transfer(u, store, d, n, reply);
     case 0x37:
         if (n != 1) return refuse(0x37, 0x13, reply);
-        if (u->phase < TACHO_GRANTED) return refuse(0x37, 0x22, reply);
-        u->phase = TACHO_SESSION;
+        if (u->phase < TACHO_PHASE_GRANTED) return refuse(0x37, 0x22, reply);
+        u->phase = TACHO_PHASE_SESSION;
         return say((const uint8_t[]){0x77}, 1, reply);
     case 0x82:
         if (n != 1) return refuse(0x82, 0x13, reply);
-        u->phase = TACHO_CLOSED;
+        u->phase = TACHO_PHASE_CLOSED;
         u->rate = 1;
         return say((const uint8_t[]){0xC2}, 1, reply);
     case 0x83: return on_acknowledge(u, store, d, n, reply);
@@ -166,13 +166,31 @@ tacho_written ref_unit_step(uint8_t *state, size_t state_len, const uint8_t *sto
     if (d.number) return (tacho_written){d.number, 0};
     size_t len = 0;
     if (frame[0] == 0x81) {
-        u.phase = TACHO_STARTED;
+        u.phase = TACHO_PHASE_STARTED;
         u.rate = 1;
         u.pending = 0;
         len = say((const uint8_t[]){0xC1, 0xEA, 0x8F}, 3, reply);
-    } else if (u.phase != TACHO_CLOSED) {
+    } else if (u.phase != TACHO_PHASE_CLOSED) {
         len = hear(&u, store, frame + d.start, d.len, reply);
     }
     pack(&u, state);
     return (tacho_written){0, len};
+}
+
+size_t ref_unit_kind(const uint8_t *state, size_t len)
+{
+    unit u;
+    return unpack(state, len, &u) ? u.kind : TACHO_NO_STATE;
+}
+
+size_t ref_unit_rate(const uint8_t *state, size_t len)
+{
+    unit u;
+    return unpack(state, len, &u) ? u.rate : TACHO_NO_STATE;
+}
+
+size_t ref_unit_phase(const uint8_t *state, size_t len)
+{
+    unit u;
+    return unpack(state, len, &u) ? u.phase : TACHO_NO_STATE;
 }

@@ -1,6 +1,7 @@
-#include "messages.h"
+/* House numbers, wire codes and transfer types in words. */
+#include "tacho.h"
 
-const char *number_text(uint8_t number)
+const char *tacho_number_text(uint8_t number)
 {
     static const char *const texts[] = {
         "not refused",
@@ -20,7 +21,7 @@ const char *number_text(uint8_t number)
     return number < sizeof texts / sizeof *texts ? texts[number] : "unknown number";
 }
 
-const char *code_text(uint8_t code)
+const char *tacho_code_text(uint8_t code)
 {
     switch (code) {
     case 0x10: return "general reject";
@@ -36,7 +37,7 @@ const char *code_text(uint8_t code)
     }
 }
 
-const char *type_text(uint8_t trep)
+const char *tacho_type_text(uint8_t trep)
 {
     switch (trep) {
     case 0x00: return "interface version";
