@@ -67,6 +67,7 @@ unfolding isActivities
 absent-no-activities byte e = rw (eq-eqb byte absent e)
 
 -- the third row, read entry by entry
-pub activities-is : (byte a b c : ℕ) → (byte ≡ absent → ⊥) → a ≡ trtpOf 2 0 → b ≡ trtpOf 2 1 → c ≡ trtpOf 2 2 → ((eqb a byte || eqb b byte) || eqb c byte) ≡ isActivities byte
+pub activities-is : (byte a b c : ℕ) → (byte ≡ absent → ⊥) → a ≡ trtpOf 2 0 → b ≡ trtpOf 2 1 → c ≡ trtpOf 2 2
+    → ((eqb a byte || eqb b byte) || eqb c byte) ≡ isActivities byte
 unfolding isActivities
 activities-is byte a b c n p q r = rw (ne-eqb byte absent n, p, q, r)

@@ -23,6 +23,7 @@ dayNamed name = cond (isActivities (name .trep)) (eqb (firstSecond (name .day)) 
 unfoldable pub sameAnswer : AnswerName → AnswerName → Bool
 sameAnswer a b = eqb (a .trep) (b .trep) && eqb (a .day) (b .day)
 
--- "12: answer or request not in the table below, or its day no multiple of 86,400, or a day other than zero outside activities"
+-- "12: answer or request not in the table below, or its day no multiple of 86,400, or a day other than zero outside
+-- activities"
 unfoldable pub nameNumber : AnswerName → ℕ
 nameNumber name = unless (listed (name .trep)) notInTable (unless (dayNamed name) notInTable done)

@@ -78,7 +78,8 @@ module _ (a : Addresses) (end : End) (f : List ℕ) (right : judged a end f ≡ 
       let three : getD (take n f) 3 0 ≡ getD f 3 0 = getD-take n f 3 0 (omega arith) in
       go (isStart f) refl g h m zero three
     where
-      go : (t : Bool) → isStart f ≡ t → Good a end f → Good a end (take n f) → length (take n f) ≡ n → getD (take n f) 0 0 ≡ getD f 0 0 → getD (take n f) 3 0 ≡ getD f 3 0 → ⊥
+      go : (t : Bool) → isStart f ≡ t → Good a end f → Good a end (take n f) → length (take n f) ≡ n → getD (take n f) 0 0 ≡ getD f 0 0
+          → getD (take n f) 3 0 ≡ getD f 3 0 → ⊥
       go true e g h m zero three =
           let s : isStart (take n f) ≡ true = rw zero e in
           omega (arith, count-start f (g .count) e, count-start (take n f) (h .count) s)

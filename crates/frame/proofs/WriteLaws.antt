@@ -49,10 +49,12 @@ module _ (p r : List ℕ) (room : ℕ) where
     pub kept-long : 255 < length p + length r → old ≡ changedBy (writeNumber (length (p ++ r)) room) new old
     kept-long h = kept 1 _ new old (number-long h) refl
 
-    pub kept-short : (length p + length r ≡ 0 → ⊥) → length p + length r ≤ 255 → room < length p + length r + 5 → old ≡ changedBy (writeNumber (length (p ++ r)) room) new old
+    pub kept-short : (length p + length r ≡ 0 → ⊥) → length p + length r ≤ 255 → room < length p + length r + 5
+        → old ≡ changedBy (writeNumber (length (p ++ r)) room) new old
     kept-short z l h = kept 4 _ new old (number-short z l h) refl
 
-  pub length-good : (length p + length r ≡ 0 → ⊥) → length p + length r ≤ 255 → length p + length r + 5 ≤ room → length p + length r + 5 ≡ changedBy (writeNumber (length (p ++ r)) room) (length (p ++ r) + 5) 0
+  pub length-good : (length p + length r ≡ 0 → ⊥) → length p + length r ≤ 255 → length p + length r + 5 ≤ room
+      → length p + length r + 5 ≡ changedBy (writeNumber (length (p ++ r)) room) (length (p ++ r) + 5) 0
   length-good z l h = changed _ _ (length (p ++ r) + 5) 0 (number-good z l h) (rw two)
 
 -- four stores at the front are the header
@@ -85,6 +87,7 @@ pub start-short : (o : List ℕ) → length o < 5 → (_≡_ {A = Written} (reco
 unfolding startResult startOut
 start-short o h = rw (lt-leb 5 (length o) h) (refl, refl)
 
-pub start-written : (o o′ : List ℕ) → 5 ≤ length o → o′ ≡ copied (0x81 ∷ 0xEE ∷ 0xF0 ∷ 0x81 ∷ 0xE0 ∷ []) o → (_≡_ {A = Written} (record { number = 0; len = 5 }) (startResult (length o))) × (o′ ≡ startOut lab o)
+pub start-written : (o o′ : List ℕ) → 5 ≤ length o → o′ ≡ copied (0x81 ∷ 0xEE ∷ 0xF0 ∷ 0x81 ∷ 0xE0 ∷ []) o
+    → (_≡_ {A = Written} (record { number = 0; len = 5 }) (startResult (length o))) × (o′ ≡ startOut lab o)
 unfolding closed startResult startOut
 start-written o o′ h e = rw (le-leb 5 (length o) h) (refl, e ∙ copied-fits _ o (omega arith))

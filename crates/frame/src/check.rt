@@ -9,7 +9,8 @@ use octets::numbers::FRAME_COUNT;
 ghost use mathlib.Core.Path.{_≡_};
 ghost use Prim.Native.Nat.{_≤_};
 ghost use lib.ListN.{length};
-ghost use Rattle.frame.specs.Frame.{lab, target, source, knownFormat, countRight, addressed, startRight, checksumRight, judged, dataPlace, dataOf};
+ghost use Rattle.frame.specs.Frame.{lab, target, source, knownFormat, countRight, addressed, startRight};
+ghost use Rattle.frame.specs.Frame.{checksumRight, judged, dataPlace, dataOf};
 
 // The address that a frame arriving at `end` goes to.
 pub(crate) fn target_of(addresses: Addresses, end: End) -> u8
@@ -118,11 +119,7 @@ pub fn locate(frame: &[u8], end: End) -> Place
 {
     let number = check(frame, end);
     if number != 0 {
-        return Place {
-            number,
-            start: 0,
-            len: 0,
-        };
+        return octets::refused_place(number);
     }
     if octets::big_endian::byte_at(frame, 0) == 0x81 {
         return Place {

@@ -86,7 +86,8 @@ pub(crate) fn write_frame(
     }
 }
 
-// Writes the frame to `end` whose data is `head` and then `rest` at the front of `out`, so that a small header needs no copy of the rest.
+// Writes the frame to `end` whose data is `head` and then `rest` at the front of `out`, so that a small header needs no
+// copy of the rest.
 pub fn write_two(head: &[u8], rest: &[u8], end: End, out: &mut [u8]) -> Written
     ensures { λ r. ⌜ r ≡ writeResult (now (head .entry) ++ now (rest .entry)) (length (now (out .entry))) ⌝ }
     ensures { λ _. ⌜ now (out .exit) ≡ writeOut lab «end» (now (head .entry) ++ now (rest .entry)) (now (out .entry)) ⌝ }
@@ -94,7 +95,8 @@ pub fn write_two(head: &[u8], rest: &[u8], end: End, out: &mut [u8]) -> Written
     write_frame(head, rest, LAB, end, out)
 }
 
-// Writes the frame to `end` with this data at the front of `out`: 1 for no data or over 255 bytes, 4 where `out` is shorter than the frame.
+// Writes the frame to `end` with this data at the front of `out`: 1 for no data or over 255 bytes, 4 where `out` is
+// shorter than the frame.
 pub fn write(data: &[u8], end: End, out: &mut [u8]) -> Written
     ensures { λ r. ⌜ r ≡ writeResult (now («data» .entry)) (length (now (out .entry))) ⌝ }
     ensures { λ _. ⌜ now (out .exit) ≡ writeOut lab «end» (now («data» .entry)) (now (out .entry)) ⌝ }

@@ -7,8 +7,10 @@ use native.Mathlib.Omega.{arith}
 use native.Mathlib.Nat.{zero-add, suc-add}
 use native.Mathlib.Numerals.{add-one}
 use lib.Dec.{eqb}
-use lib.ListN.{length, getD, take, drop, set, length-append, length-drop, length-take, take-append-drop, drop-of-length-le, List·getD-append, List·getD-eq-default}
-use lib.Seq.{take-append-seam, drop-append-add, take-at, drop-drop, take-length, take-all, take-suc, take-nil, drop-cons, getD-take, paste, paste-zero, paste-suc, set-at, sets, sets-eq, slice, slice-empty, slice-cons, length-take-le, append-snoc}
+use lib.ListN.{length, getD, take, drop, set, length-append, length-drop, length-take, take-append-drop, drop-of-length-le, List·getD-append}
+use lib.ListN.{List·getD-eq-default}
+use lib.Seq.{take-append-seam, drop-append-add, take-at, drop-drop, take-length, take-all, take-suc, take-nil, drop-cons, getD-take, paste, paste-zero}
+use lib.Seq.{paste-suc, set-at, sets, sets-eq, slice, slice-empty, slice-cons, length-take-le, append-snoc}
 use borrow.Author.Tests.{le-leb, lt-leb, eq-eqb, ne-eqb, eqb-true}
 use Rattle.octets.specs.Buffer.{partAt, sameBytes, front, put, copied, moved, shifted}
 use Rattle.octets.proofs.Tests.{and-left, and-right}
@@ -147,7 +149,8 @@ copied-fits v o h = simp (le-leb _ _ h)
 -- A tail lent on
 
 -- a slice after its tail from a on was lent to a function that leaves f of what it is handed
-pub lent : (f : List ℕ → List ℕ) (a : ℕ) (xs ys : List ℕ) → ys ≡ f (take (length xs - a) (drop a xs)) → take a xs ++ (ys ++ drop (length xs - a) (drop a xs)) ≡ take a xs ++ f (drop a xs)
+pub lent : (f : List ℕ → List ℕ) (a : ℕ) (xs ys : List ℕ) → ys ≡ f (take (length xs - a) (drop a xs))
+    → take a xs ++ (ys ++ drop (length xs - a) (drop a xs)) ≡ take a xs ++ f (drop a xs)
 lent f a xs ys e =
     let t : take (length xs - a) (drop a xs) ≡ drop a xs = take-all (length xs - a) (drop a xs) (simp length-drop (omega arith)) in
     let d : drop (length xs - a) (drop a xs) ≡ [] = drop-of-length-le (drop a xs) {i = length xs - a} (simp length-drop (omega arith)) in
@@ -158,7 +161,8 @@ pub front-of-tail : (at : ℕ) (v o : List ℕ) → take at o ++ front v (drop a
 unfolding front put
 front-of-tail at v o = rw drop-drop (sym (append-assoc (take at o) v (drop (at + length v) o)))
 
-pub lent-copy : (at : ℕ) (v o o′ : List ℕ) → at + length v ≤ length o → o′ ≡ copied v (take (length o - at) (drop at o)) → take at o ++ (o′ ++ drop (length o - at) (drop at o)) ≡ put at v o
+pub lent-copy : (at : ℕ) (v o o′ : List ℕ) → at + length v ≤ length o → o′ ≡ copied v (take (length o - at) (drop at o))
+    → take at o ++ (o′ ++ drop (length o - at) (drop at o)) ≡ put at v o
 lent-copy at v o o′ h e =
     lent (copied v) at o o′ e ∙ ap (λ (l : List ℕ). take at o ++ l) (copied-fits v (drop at o) (simp length-drop (omega arith))) ∙ front-of-tail at v o
 
@@ -191,7 +195,8 @@ shift-more b b′ start i end by l h m k e =
     let d : b′ ≡ moved (suc j) end by b = rw t at e in
     ap (λ (s : List ℕ). set s (j + by) (getD s j 0)) d ∙ moved-more b j end by (omega arith) (omega arith)
 
-pub shift-done : (b b′ : List ℕ) (start i end by : ℕ) → start ≤ end → end ≤ length b → by ≤ length b - end → start ≤ i → i ≤ start → b′ ≡ moved i end by b → b′ ≡ shifted start end by b
+pub shift-done : (b b′ : List ℕ) (start i end by : ℕ) → start ≤ end → end ≤ length b → by ≤ length b - end → start ≤ i → i ≤ start → b′ ≡ moved i end by b
+    → b′ ≡ shifted start end by b
 unfolding shifted
 shift-done b b′ start i end by s n k p q e =
     let t : i ≡ start = omega arith in

@@ -69,7 +69,8 @@ module _ (test : ℕ → Bool) where
   from-holds zero i h = absurd (omega arith)
   from-holds (suc k) i h = go (test i) refl h (λ l. from-holds k (i + 1) l)
     where
-      go : (t : Bool) → test i ≡ t → cond t i (firstFrom test k (i + 1)) < i + suc k → (firstFrom test k (i + 1) < i + 1 + k → test (firstFrom test k (i + 1)) ≡ true)
+      go : (t : Bool) → test i ≡ t → cond t i (firstFrom test k (i + 1)) < i + suc k
+          → (firstFrom test k (i + 1) < i + 1 + k → test (firstFrom test k (i + 1)) ≡ true)
           → test (cond t i (firstFrom test k (i + 1))) ≡ true
       go true e l more = e
       go false e l more = more (omega arith)

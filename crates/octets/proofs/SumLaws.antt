@@ -9,7 +9,8 @@ use lib.Seq.{drop-cons}
 use Rattle.octets.specs.Sum.{total}
 
 -- a turn of the loop: the byte at i goes from what is left to the sum
-pub sum-more : (s : List ℕ) (i sum r : ℕ) → i < length s → r ≡ (sum + getD s i 0) % 256 → (sum + total (drop i s)) % 256 ≡ total s % 256 → (r + total (drop (i + 1) s)) % 256 ≡ total s % 256
+pub sum-more : (s : List ℕ) (i sum r : ℕ) → i < length s → r ≡ (sum + getD s i 0) % 256 → (sum + total (drop i s)) % 256 ≡ total s % 256
+    → (r + total (drop (i + 1) s)) % 256 ≡ total s % 256
 sum-more s i sum r h e q = rw add-one (omega (arith, ap total (drop-cons s i 0 h)))
 
 -- nothing is left

@@ -18,4 +18,17 @@ abbrev μ-loop : tie.MeasureT-loop
 μ-loop out₀ bytes n i₀ out i = length bytes - i
 
 pub copy-in-spec : {M : Type 1} → statement M
-copy-in-spec = tie.close (tie.spec Inv-loop μ-loop (λ c. search all) (λ c. search all) (λ c. search all) (λ c. search all) (λ c. search all) (λ c. search all) (λ c. (search needs, simp length-set (omega arith), search (needs, copy-more))) (λ c. search all) (λ c. search all))
+copy-in-spec =
+    tie.close
+    (tie.spec
+    Inv-loop
+    μ-loop
+    (λ c. search all)
+    (λ c. search all)
+    (λ c. search all)
+    (λ c. search all)
+    (λ c. search all)
+    (λ c. search all)
+    (λ c. (search needs, simp length-set (omega arith), search (needs, copy-more)))
+    (λ c. search all)
+    (λ c. search all))

@@ -7,4 +7,18 @@ use Rattle.octets.proofs.buffer.part.Tie as tie
 ruleset all = (needs, part-behind, part-cut, part-whole)
 
 pub part-spec : {M : Type 1} → statement M
-part-spec = tie.close (tie.spec (λ c. search all) (λ c. search all) (λ c. search all) (λ c. search all) (λ c. search all) (λ c. search all) (λ c. search all) (λ c. search all) (λ c. search all) (λ c. search all) (λ c. search all) (λ c. search all))
+part-spec =
+    tie.close
+    (tie.spec
+    (λ c. search all)
+    (λ c. search all)
+    (λ c. search all)
+    (λ c. search all)
+    (λ c. search all)
+    (λ c. search all)
+    (λ c. search all)
+    (λ c. search all)
+    (λ c. search all)
+    (λ c. search all)
+    (λ c. search all)
+    (λ c. search all))

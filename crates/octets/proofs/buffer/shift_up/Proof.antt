@@ -18,4 +18,20 @@ abbrev μ-loop : tie.MeasureT-loop
 μ-loop buffer₀ start end by n i₀ buffer i = i
 
 pub shift-up-spec : {M : Type 1} → statement M
-shift-up-spec = tie.close (tie.spec Inv-loop μ-loop (λ c. search all) (λ c. search all) (λ c. search all) (λ c. search all) (λ c. search all) (λ c. search all) (λ c. search all) (λ c. search all) (λ c. search all) (λ c. (search needs, search needs, simp length-set (omega arith), search (needs, shift-more))) (λ c. search all) (λ c. search all))
+shift-up-spec =
+    tie.close
+    (tie.spec
+    Inv-loop
+    μ-loop
+    (λ c. search all)
+    (λ c. search all)
+    (λ c. search all)
+    (λ c. search all)
+    (λ c. search all)
+    (λ c. search all)
+    (λ c. search all)
+    (λ c. search all)
+    (λ c. search all)
+    (λ c. (search needs, search needs, simp length-set (omega arith), search (needs, shift-more)))
+    (λ c. search all)
+    (λ c. search all))

@@ -1,4 +1,4 @@
--- The sum wraps at 16 bits.
+-- The code is the number of the next sub message.
 use borrow.Author.Needs.{needs}
 use Rattle.split.proofs.codes.acknowledge.Statement.{statement}
 use Rattle.split.proofs.codes.acknowledge.Tie as tie
