@@ -3,9 +3,10 @@ use Prim.Native.Nat.{ℕ, _+_, _-_, _≤_}
 use mathlib.Core.Bool.{Bool, true, false}
 use mathlib.Core.List.{List}
 use mathlib.Core.Path.{_≡_, refl, sym, _∙_}
+use native.Mathlib.Omega.{arith}
 use lib.Dec.{leb, ltb, eqb}
 use lib.ListN.{length, getD, take}
-use borrow.Author.Tests.{eq-eqb, ne-eqb, leb-true, eqb-true}
+use borrow.Author.Tests.{lt-ltb, le-ltb, eq-eqb, ne-eqb, leb-true, eqb-true}
 use Rattle.octets.proofs.OrderLaws.{unless-is}
 use Rattle.octets.proofs.Tests.{and-right}
 use Rattle.octets.proofs.CallLaws.{place-refused}
@@ -24,6 +25,21 @@ start-at-unit end s r e q = rw e q
 pub start-at-tool : (end : End) (s : List ℕ) → end ≡ ends.Tool → false ≡ startRight end s
 unfolding startRight
 start-at-tool end s e = rw e
+
+-- The returns of `count_right`; n is LEN as a length
+module _ (s : List ℕ) where
+  pub count-without : getD s 0 0 ≡ 0x81 → eqb (length s) 5 ≡ countRight s
+  unfolding countRight
+  count-without h = rw (eq-eqb _ _ h)
+
+  module _ (general : getD s 0 0 ≡ 0x81 → ⊥) where
+    pub count-zero : getD s 3 0 ≡ 0 → false ≡ countRight s
+    unfolding countRight
+    count-zero z = rw (ne-eqb _ _ general, le-ltb 0 (getD s 3 0) (omega arith))
+
+    pub count-by-len : (n : ℕ) → (getD s 3 0 ≡ 0 → ⊥) → n ≡ getD s 3 0 → eqb (length s) (n + 5) ≡ countRight s
+    unfolding countRight
+    count-by-len n z e = rw (ne-eqb _ _ general, lt-ltb 0 (getD s 3 0) (omega arith), e)
 
 -- Everything that number 0 says
 pub record Good (a : Addresses) (end : End) (s : List ℕ) : Type 0 where

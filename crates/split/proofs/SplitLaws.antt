@@ -20,8 +20,14 @@ use Rattle.octets.proofs.CallLaws.{written-is, place-refused, kept-by}
 use Rattle.frame.specs.declared.Addresses.{Addresses}
 use Rattle.frame.specs.declared.End.the-variants as ends
 use Rattle.frame.specs.Frame.{writeNumber, writeResult, writeOut}
+use Rattle.split.specs.declared.SubMessage.{SubMessage}
+use Rattle.split.specs.Codes.{code, nextOf, acknowledgeOf}
 use Rattle.split.specs.Split.{dataMost, singleMost, pieceSize, isSplit, countOf, subMessages, carries, pieceNumber, piecePlace, pieceOf, subField}
 use Rattle.split.specs.Split.{subFrame, subNumber, subResult, subOut}
+
+-- the code that acknowledges a sub message, from the number behind it
+pub code-of-next : (last next : SubMessage) → next ≡ nextOf last → code (next .0) ≡ acknowledgeOf last
+code-of-next last next e = ap (λ (k : SubMessage). code (k .0)) e
 
 -- whether n data bytes are split, from the test of the code
 pub single-length : (n : ℕ) {t : Bool} → t ≡ isSplit n → not t ≡ true → n ≤ singleMost

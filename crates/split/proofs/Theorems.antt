@@ -1,14 +1,15 @@
 -- Splitting and joining, for every answer up to the bound.
 use Prim.Native.Nat.{ℕ, zero, suc, _+_, _-_, _*_, _/_, _%_, _<_, _≤_}
-use mathlib.Core.Bool.{Bool, true, false, _&&_}
+use mathlib.Core.Bool.{true, false}
 use mathlib.Core.List.{List, [], _∷_, _++_, map}
 use mathlib.Core.Path.{_≡_, refl, sym, _∙_}
 use native.Mathlib.Omega.{arith}
 use native.Mathlib.Decide.{decLe}
-use lib.Dec.{eqb, ltb}
+use lib.Dec.{eqb}
 use lib.ListN.{length, take, drop, length-take, length-drop}
 use lib.Seq.{take-add, take-all}
 use borrow.Author.Tests.{lt-ltb, le-ltb, le-leb, eq-eqb, ne-eqb}
+use Rattle.octets.proofs.Tests.{and-false}
 use Rattle.octets.specs.BigEndian.{numberAt}
 use Rattle.frame.specs.declared.Addresses.{Addresses}
 use Rattle.frame.specs.declared.End.the-variants as ends
@@ -84,10 +85,6 @@ answers-back trep k d = rw (eq-eqb trep trep refl, le-leb 2 (length (subField tr
 
 -- Joining
 
-full-not-whole : (t : Bool) → (t && ltb 255 255) ≡ false
-full-not-whole true = refl
-full-not-whole false = refl
-
 abbrev fieldsFrom : ℕ → List ℕ → ℕ → ℕ → List (List ℕ)
 fieldsFrom trep d zero k = []
 fieldsFrom trep d (suc m) k = subField trep k d ∷ fieldsFrom trep d m (k + 1)
@@ -132,7 +129,7 @@ module _ (trep : ℕ) (d : List ℕ) where
     joined-full m k f l ih =
         let g : List ℕ = subField trep k d in
         let n : length g ≡ 255 = length-full trep d h k f l in
-        let w : isWhole k (length g) ≡ false = rw n (full-not-whole (eqb k 1)) in
+        let w : isWhole k (length g) ≡ false = rw n (and-false (eqb k 1) false refl) in
         let r : k ≡ numberAt 2 2 g = sym (number-reads-back trep d h k (omega arith)) in
         let z : (k + 1 - 1) * pieceSize ≡ k * pieceSize = omega arith in
         rw (← full trep k g (answers-back trep k d) w k (omega arith) r (omega arith) (omega arith) (omega arith), go-on k f) (rw z at ih)

@@ -1,4 +1,5 @@
 -- The refusals in order; then header, both parts and checksum, one behind the other.
+use native.Mathlib.Omega.{arith}
 use Rattle.octets.proofs.CallLaws.{written-is}
 use Rattle.frame.specs.Frame.{writeResult, writeOut}
 use Rattle.frame.proofs.WriteLaws.{number-empty, number-long, number-short, number-good, kept-empty, kept-long, kept-short, length-good, framed}
@@ -18,15 +19,15 @@ write-frame-spec =
     (λ c. search all)
     (λ c. search all)
     (λ c. search all)
-    (λ c κs. search all)
-    (λ c κs. search all)
+    (λ c κs. search needs)
+    (λ c κs. search needs)
     (λ c. search all)
-    (λ c κs. search all)
-    (λ c κs. search all)
+    (λ c κs. search needs)
+    (λ c κs. search needs)
     (λ c. search all)
-    (λ c κs. search all)
+    (λ c κs. search needs)
     (λ c. search all)
-    (λ c κs. search all)
+    (λ c κs. omega arith)
     (λ c. search all)
     (λ c. search all)
     (λ c. search all))
