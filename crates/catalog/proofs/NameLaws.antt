@@ -1,19 +1,14 @@
 -- Names: what number 0 says, and equality of names.
 use mathlib.Core.Path.{_≡_, refl, ap₂}
-use mathlib.Core.Bool.{Bool, true, false}
+use mathlib.Core.Bool.{true, false}
 use Prim.Native.Nat.{ℕ}
 use lib.Dec.{eqb}
 use borrow.Author.Tests.{eq-eqb, ne-eqb, eqb-true}
 use Rattle.octets.proofs.Tests.{and-left, and-right, and-false}
 use Rattle.octets.proofs.OrderLaws.{unless-is}
-use Rattle.catalog.specs.Table.{knownTo, listed, isActivities}
-use Rattle.catalog.specs.Name.{dayAllowed, dayNamed, sameAnswer, nameNumber}
+use Rattle.catalog.specs.Table.{knownTo, listed}
+use Rattle.catalog.specs.Name.{dayNamed, sameAnswer, nameNumber}
 use Rattle.catalog.specs.declared.AnswerName.{AnswerName}
-
--- whether a day may be named, from whether the TREP is one of activities
-pub named-by : (name : AnswerName) (a r : Bool) → a ≡ isActivities (name .trep) → r ≡ dayAllowed a (name .day) → r ≡ dayNamed name
-unfolding dayNamed
-named-by name a r e q = rw (← e) q
 
 pub same-self : (a : AnswerName) → sameAnswer a a ≡ true
 unfolding sameAnswer

@@ -66,7 +66,8 @@ pub put-one : (at x y : ℕ) (o : List ℕ) → at < length o → x ≡ y → se
 put-one at x y o h e = rw (← e) (stores-put at (x ∷ []) o (omega arith))
 
 -- header, both parts of the data and the checksum, one behind the other, are the frame
-module _ (a : Addresses) (end : End) (p r o o₁ o₂ o₃ o₄ : List ℕ) (t s : ℕ) (z : length p + length r ≡ 0 → ⊥) (l : length p + length r ≤ 255) (h : length p + length r + 5 ≤ length o) where
+module _ (a : Addresses) (end : End) (p r o o₁ o₂ o₃ o₄ : List ℕ) (t s : ℕ) (z : length p + length r ≡ 0 → ⊥) (l : length p + length r ≤ 255)
+    (h : length p + length r + 5 ≤ length o) where
   pub framed : t ≡ target a end → s ≡ source a end → o₁ ≡ front (0x80 ∷ t ∷ s ∷ (length p + length r) ∷ []) o → o₂ ≡ put 4 p o₁ → o₃ ≡ put (length p + 4) r o₂
       → o₄ ≡ put (length p + length r + 4) (checksumOf (take (length p + length r + 4) o₃) ∷ []) o₃
       → o₄ ≡ changedBy (writeNumber (length (p ++ r)) (length o)) (front (frameOf a end (p ++ r)) o) o
@@ -79,7 +80,8 @@ module _ (a : Addresses) (end : End) (p r o o₁ o₂ o₃ o₄ : List ℕ) (t s
       let f₁ : o₁ ≡ front q o = rw (e, ← et, ← es) e₁ in
       let f₂ : o₂ ≡ front (q ++ p) o = e₂ ∙ ap (put 4 p) f₁ ∙ put-front 4 q p o refl in
       let f₃ : o₃ ≡ front b o = e₃ ∙ ap (put (length p + 4) r) f₂ ∙ put-front (length p + 4) (q ++ p) r o (omega arith) in
-      let f₄ : o₄ ≡ front (b ++ (checksumOf b ∷ [])) o = rw (e₄, f₃, take-front (length p + length r + 4) b o k) (put-front (length p + length r + 4) b _ o k) in
+      let f₄ : o₄ ≡ front (b ++ (checksumOf b ∷ [])) o =
+      rw (e₄, f₃, take-front (length p + length r + 4) b o k) (put-front (length p + length r + 4) b _ o k) in
       changed _ o₄ (front (b ++ (checksumOf b ∷ [])) o) o (number-good p r (length o) z l h) f₄
 
 -- the five-byte start: the string that is copied, and a buffer that is too short for it

@@ -1,7 +1,7 @@
 -- The state behind a reaction, from the tests of the code.
 use Prim.Native.Nat.{ℕ}
 use mathlib.Core.Bool.{Bool, true, false}
-use mathlib.Core.Path.{_≡_, sym, ap, _∙_}
+use mathlib.Core.Path.{_≡_}
 use Rattle.octets.specs.declared.Place.{Place}
 use Rattle.catalog.specs.declared.AnswerName.{AnswerName}
 use Rattle.split.specs.Split.{isSplit}
@@ -13,17 +13,15 @@ use Rattle.services.specs.declared.Reaction.{Reaction}
 use Rattle.services.specs.declared.Reaction.the-variants.{AnswerSent}
 use Rattle.services.specs.State.{dataAt}
 use Rattle.services.specs.After.{withPhase, phaseAfter, stateAfter}
+use Rattle.services.proofs.StateLaws.{split-is}
 
 -- the phase behind an answer; n is the length of its data, t whether it is split
-module _ (name : AnswerName) (k : SubMessage) (place : Place) (n : ℕ) (measured : n ≡ dataAt place) (t : Bool) (asked : t ≡ isSplit n) where
-  is-split : isSplit (dataAt place) ≡ t
-  is-split = sym (asked ∙ ap isSplit measured)
+module _ (name : AnswerName) (k : SubMessage) (place : Place) (n : ℕ) (t : Bool) where
+  pub after-split : n ≡ dataAt place → t ≡ isSplit n → t ≡ true → Sending name k ≡ phaseAfter name k place
+  after-split measured asked h = rw (split-is place n t measured asked, h)
 
-  pub after-split : t ≡ true → Sending name k ≡ phaseAfter name k place
-  after-split h = rw (is-split, h)
-
-  pub after-whole : t ≡ false → Granted ≡ phaseAfter name k place
-  after-whole h = rw (is-split, h)
+  pub after-whole : n ≡ dataAt place → t ≡ isSplit n → t ≡ false → Granted ≡ phaseAfter name k place
+  after-whole measured asked h = rw (split-is place n t measured asked, h)
 
 -- the state behind a reaction x, which is y
 pub state-is : (u v : UnitState) (x y : Reaction) → x ≡ y → v ≡ stateAfter u y → v ≡ stateAfter u x

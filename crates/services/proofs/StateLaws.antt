@@ -13,7 +13,11 @@ use Rattle.services.specs.declared.Phase.{Phase}
 use Rattle.services.specs.declared.UnitState.{UnitState}
 use Rattle.services.specs.State.{nameSent, dataAt, sendable, phasePossible, possibleAt}
 
--- The returns of `sendable`, from its tests; n is the length of the data, t whether it is split
+-- whether the answer at a place is split, from the code's own tests: n is the length of its data, t whether that is split
+pub split-is : (place : Place) (n : ℕ) (t : Bool) → n ≡ dataAt place → t ≡ isSplit n → isSplit (dataAt place) ≡ t
+split-is place n t measured asked = sym (asked ∙ ap isSplit measured)
+
+-- The returns of `sendable`, from its tests; n and t as above
 module _ (place : Place) (k : SubMessage) where
   pub sendable-missing : (place .number ≡ 0 → ⊥) → false ≡ sendable place k
   unfolding sendable
@@ -21,7 +25,7 @@ module _ (place : Place) (k : SubMessage) where
 
   module _ (held : place .number ≡ 0) (n : ℕ) (measured : n ≡ dataAt place) (t : Bool) (asked : t ≡ isSplit n) where
     is-split : isSplit (dataAt place) ≡ t
-    is-split = sym (asked ∙ ap isSplit measured)
+    is-split = split-is place n t measured asked
 
     pub sendable-whole : not t ≡ true → false ≡ sendable place k
     unfolding sendable
