@@ -1,4 +1,4 @@
--- Names of answers. The day rule is known to the three definitions dayNamed, firstSecond and sameAnswer alone.
+-- Names of answers. The day rule is known to the three definitions dayAllowed, firstSecond and sameAnswer alone.
 use Prim.Native.Nat.{ℕ, _-_, _%_}
 use mathlib.Core.Bool.{Bool, cond, _&&_}
 use lib.Dec.{eqb}
@@ -15,9 +15,13 @@ noAnswer = record { trep = absent; day = 0 }
 unfoldable pub firstSecond : ℕ → ℕ
 firstSecond second = second - second % 86400
 
--- may this day be named: "a multiple of 86,400" for activities, no "day other than zero outside activities"
+-- may this day stand in a name: "a multiple of 86,400" for activities, no "day other than zero outside activities"
+abbrev pub dayAllowed : Bool → ℕ → Bool
+dayAllowed activities day = cond activities (eqb (firstSecond day) day) (eqb day 0)
+
+-- may this day be named beside the TREP
 unfoldable pub dayNamed : AnswerName → Bool
-dayNamed name = cond (isActivities (name .trep)) (eqb (firstSecond (name .day)) (name .day)) (eqb (name .day) 0)
+dayNamed name = dayAllowed (isActivities (name .trep)) (name .day)
 
 -- are two names the same answer: "No two share TREP and day"
 unfoldable pub sameAnswer : AnswerName → AnswerName → Bool

@@ -2,7 +2,7 @@
 use octets::numbers::NOT_IN_TABLE;
 ghost use mathlib.Core.Path.{_≡_};
 ghost use Rattle.catalog.specs.Table.{trtpOf, knownTo, listed, isActivities};
-ghost use Rattle.catalog.specs.Name.{dayNamed, firstSecond, sameAnswer, nameNumber};
+ghost use Rattle.catalog.specs.Name.{dayAllowed, dayNamed, firstSecond, sameAnswer, nameNumber};
 
 // The kinds of unit.
 pub const GENERATION_1: u8 = 0;
@@ -13,20 +13,10 @@ pub const GENERATION_2_VERSION_2: u8 = 2;
 
 pub const KINDS: u8 = 3;
 
-// The transfer types, in the order of the table.
-pub const INTERFACE_VERSION: u8 = 0;
+// The rows of the table, and the one of activities.
+const TRANSFER_TYPES: u8 = 6;
 
-pub const OVERVIEW: u8 = 1;
-
-pub const ACTIVITIES: u8 = 2;
-
-pub const EVENTS_AND_FAULTS: u8 = 3;
-
-pub const DETAILED_SPEED: u8 = 4;
-
-pub const TECHNICAL_DATA: u8 = 5;
-
-pub const TRANSFER_TYPES: u8 = 6;
+const ACTIVITIES: u8 = 2;
 
 // Where a kind has no such transfer type. FF is no TRTP, so an absent entry never looks present.
 pub const ABSENT: u8 = 0xFF;
@@ -72,10 +62,10 @@ pub const NO_ANSWER: AnswerName = AnswerName { trep: 0xFF, day: 0 };
 pub fn trtp(row: u8, kind: u8) -> u8
     ensures { λ r. ⌜ r ≡ trtpOf row kind ⌝ }
 {
-    if kind >= 3 {
+    if kind >= KINDS {
         return ABSENT;
     }
-    if row >= 6 {
+    if row >= TRANSFER_TYPES {
         return ABSENT;
     }
     let i = (row as usize) * 3 + (kind as usize);
@@ -90,7 +80,7 @@ pub fn known_to(kind: u8, byte: u8) -> bool
         return false;
     }
     let mut row: u8 = 0;
-    while row < 6 {
+    while row < TRANSFER_TYPES {
         if trtp(row, kind) == byte {
             return true;
         }
@@ -129,15 +119,27 @@ pub fn first_second(second: u32) -> u32
     second - second % 86400
 }
 
-// Whether this day may be named beside the TREP.
+// Whether this day may stand in a name, of activities or of another answer.
+pub fn day_allowed(activities: bool, day: u32) -> bool
+    ensures { λ r. ⌜ r ≡ dayAllowed activities day ⌝ }
+{
+    if activities {
+        first_second(day) == day
+    } else {
+        day == 0
+    }
+}
+
+// Whether this day may be named beside the TREP. Two calls: the compiler makes a shorter store check of them
+// (docs/PERFORMANCE.md).
 pub fn day_named(name: AnswerName) -> bool
     ensures { λ r. ⌜ r ≡ dayNamed name ⌝ }
 {
     let day = name.day;
     if is_activities(name.trep) {
-        first_second(day) == day
+        day_allowed(true, day)
     } else {
-        day == 0
+        day_allowed(false, day)
     }
 }
 

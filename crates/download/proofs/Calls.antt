@@ -11,7 +11,7 @@ use Rattle.octets.specs.Buffer.{front}
 use Rattle.octets.proofs.BufferLaws.{take-front}
 use Rattle.frame.specs.declared.Addresses.{Addresses}
 use Rattle.catalog.specs.declared.AnswerName.{AnswerName}
-use Rattle.unit.specs.declared.UnitState.{UnitState}
+use Rattle.services.specs.declared.UnitState.{UnitState}
 use Rattle.unit.specs.Call.{unitReply, unitResult, unitOut}
 use Rattle.tool.specs.declared.Request.{Request}
 use Rattle.tool.specs.declared.ToolState.{ToolState}

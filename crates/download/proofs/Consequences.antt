@@ -10,9 +10,10 @@ use Rattle.frame.specs.Frame.{dataOf}
 use Rattle.split.specs.Codes.{sub}
 use Rattle.split.specs.Split.{isSplit, subField}
 use Rattle.split.proofs.Theorems.{sub-reads-back}
-use Rattle.unit.specs.declared.Phase.{Phase}
-use Rattle.unit.specs.declared.Phase.the-variants.{Closed, Started, Session, Granted, Sending}
-use Rattle.unit.specs.State.{placeSent, phasePossible}
+use Rattle.services.specs.declared.Phase.{Phase}
+use Rattle.services.specs.declared.Phase.the-variants.{Closed, Started, Session, Granted, Sending}
+use Rattle.services.specs.State.{phasePossible}
+use Rattle.unit.specs.State.{placeSent}
 use Rattle.tool.specs.declared.Outcome.{Outcome}
 use Rattle.tool.specs.declared.Outcome.the-variants.{NoRoom, Refused}
 use Rattle.line.specs.Line.{toolEnd, Event}

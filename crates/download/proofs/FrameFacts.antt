@@ -22,7 +22,7 @@ use Rattle.catalog.specs.declared.AnswerName.{AnswerName}
 use Rattle.split.specs.Codes.{sub, acknowledgeOf}
 use Rattle.split.specs.Split.{countOf, carries}
 use Rattle.split.proofs.SplitLaws.{carries-split}
-use Rattle.split.proofs.Theorems.{sub-good, sub-reads-back, count-one, count-split, number-reads-back}
+use Rattle.split.proofs.Theorems.{sub-good, sub-reads-back, count-one, count-split, count-some, count-most, number-reads-back}
 use Rattle.tool.specs.declared.Request.the-variants as requests
 use Rattle.tool.specs.Sent.{transferRequest, acknowledgement, transferData, frameSent}
 use Rattle.line.specs.Line.{toolEnd}
@@ -66,9 +66,6 @@ module _ (a : Addresses) (name : AnswerName) (e : ℕ) where
   unfolding frameSent
   strings-asked = strings-frame a ends.Unit (transferData name e)
 
-pub count-most : (n : ℕ) → n ≤ 59998 → countOf n ≤ 240
-count-most n h = byTest (ltb 252 n) (λ e. omega (arith, count-split n (ltb-true _ _ e))) (λ e. omega (arith, count-one n (ltb-false _ _ e)))
-
 -- The answer and its frames
 module _ (g : Premises) where
   pub shape : g .answer ≡ 0x76 ∷ g .name .trep ∷ answerData g
@@ -90,10 +87,7 @@ module _ (g : Premises) where
 
   -- every answer has a frame, and at most 240
   pub some-frame : 1 ≤ countOf (length (answerData g))
-  some-frame =
-      byTest (ltb 252 (length (answerData g)))
-      (λ e. omega (arith, count-split (length (answerData g)) (ltb-true _ _ e)))
-      (λ e. omega (arith, count-one (length (answerData g)) (ltb-false _ _ e)))
+  some-frame = count-some (length (answerData g))
 
   pub frames-most : countOf (length (answerData g)) ≤ 240
   frames-most = count-most (length (answerData g)) data-most

@@ -14,9 +14,9 @@ use Rattle.split.specs.Split.{countOf, subFrame}
 use Rattle.unit.specs.State.{possible}
 use Rattle.tool.specs.State.{freshTool}
 use Rattle.octets.specs.Buffer.{sameBytes}
-use Rattle.unit.specs.declared.UnitState.{UnitState}
-use Rattle.unit.specs.declared.Phase.{Phase}
-use Rattle.unit.specs.declared.Phase.the-variants.{Session, Granted, Sending}
+use Rattle.services.specs.declared.UnitState.{UnitState}
+use Rattle.services.specs.declared.Phase.{Phase}
+use Rattle.services.specs.declared.Phase.the-variants.{Session, Granted, Sending}
 use Rattle.tool.specs.declared.Request.the-variants.{Transfer}
 use Rattle.tool.specs.declared.Outcome.{Outcome}
 use Rattle.tool.specs.declared.Outcome.the-variants.{Fresh, Waiting, Done, NoAnswer, NoRoom, Refused}

@@ -10,10 +10,12 @@ use Rattle.octets.specs.Search.{firstFrom}
 use Rattle.store.specs.Layout.{headerSize, entrySize, entriesSize, nameAt}
 use Rattle.store.specs.Check.{headerFits, countsFit, filledTo, placeRight, placesRight, answerRight, answersRight, repeats, namesDiffer, storeNumber}
 use Rattle.store.specs.Read.{lookupNumber, lookupPlace, lookupPart}
-use Rattle.unit.specs.State.{sendable, phasePossible, possibleAt, possible}
-use Rattle.unit.specs.Services.{requestName, answerFrom, onTransfer, onCode, onSending, onAcknowledge}
-use Rattle.unit.specs.Call.{onData, reactionAt, reactionTo, stateAfter as unitAfter, replyData, replyTo, numberBefore, unitNumber, unitState, unitReply}
-use Rattle.unit.specs.Call.{unitResult}
+use Rattle.services.specs.State.{sendable, phasePossible, possibleAt}
+use Rattle.unit.specs.State.{possible}
+use Rattle.services.specs.Services.{requestName, answerFrom, onTransfer, onCode, onSending, onAcknowledge}
+use Rattle.services.specs.Services.{onData}
+use Rattle.services.specs.After.{stateAfter as unitAfter}
+use Rattle.unit.specs.Call.{reactionAt, reactionTo, replyData, replyTo, numberBefore, unitNumber, unitState, unitReply, unitResult}
 use Rattle.tool.specs.State.{heldRight, transferPossible, possible as toolPossible}
 use Rattle.tool.specs.Sent.{transferRequest, acknowledgement, transferData, frameSent, sidSent}
 use Rattle.tool.specs.Event.{newBytes, fits, meaningOf, transferMeaning, isRefusal, refusalMeaning, dataMeaning, arrivalMeaning, arrivalBytes, afterFailedWait}

@@ -26,13 +26,15 @@ use Rattle.store.specs.Layout.{narrow}
 use Rattle.store.specs.Check.{storeNumber}
 use Rattle.store.specs.Read.{lookupNumber, lookupPlace}
 use Rattle.store.proofs.ReadLaws.{number-of-place}
-use Rattle.unit.specs.declared.Phase.{Phase}
-use Rattle.unit.specs.declared.Phase.the-variants.{Closed, Started, Session, Granted, Sending}
-use Rattle.unit.specs.declared.UnitState.{UnitState}
-use Rattle.unit.specs.declared.Reaction.the-variants.{AnswerSent, Negative}
-use Rattle.unit.specs.State.{isClosed, isGranted, placeSent, sendable, phasePossible, possibleAt, possible}
-use Rattle.unit.specs.Services.{requestName, answerFrom, onTransfer, onCode, onSending, onAcknowledge}
-use Rattle.unit.specs.Call.{nameAsked, placeAsked, onData, reactionAt, reactionTo, numberBefore, unitNumber}
+use Rattle.services.specs.declared.Phase.{Phase}
+use Rattle.services.specs.declared.Phase.the-variants.{Closed, Started, Session, Granted, Sending}
+use Rattle.services.specs.declared.UnitState.{UnitState}
+use Rattle.services.specs.declared.Reaction.the-variants.{AnswerSent, Negative}
+use Rattle.services.specs.State.{isClosed, isGranted, sendable, phasePossible, possibleAt}
+use Rattle.unit.specs.State.{placeSent, possible}
+use Rattle.services.specs.Services.{requestName, answerFrom, onTransfer, onCode, onSending, onAcknowledge}
+use Rattle.services.specs.Services.{nameAsked, onData}
+use Rattle.unit.specs.Call.{placeAsked, reactionAt, reactionTo, numberBefore, unitNumber}
 use Rattle.tool.specs.Sent.{transferRequest, acknowledgement, transferData}
 use Rattle.line.proofs.Cases.{never}
 
@@ -67,7 +69,7 @@ named : ℕ → ℕ → AnswerName
 named trep day = record { trep = trep; day = day }
 
 name-back : (name : AnswerName) → dayNamed name ≡ true → name .day < 0x100000000 → requestName (transferRequest name) ≡ name
-unfolding requestName transferRequest dayNamed named
+unfolding requestName transferRequest dayNamed named numberAt
 name-back name d f = go (isActivities (name .trep)) refl
   where
     go : (b : Bool) → isActivities (name .trep) ≡ b → requestName (transferRequest name) ≡ name
@@ -129,13 +131,8 @@ module _ (place : Place) (name : AnswerName) (n : ℕ) (h : suc n < 65536) where
       → onAcknowledge (Sending name (sub n)) place (acknowledgement (acknowledgeOf (sub n))) ≡ AnswerSent name (sub (suc n)) place
   unfolding onAcknowledge onSending onCode acknowledgement
   sent-next c =
-      rw (
-        code-back n h,
-        ne-eqb (suc n) n (λ z. omega arith),
-        eq-eqb (suc n) ((n + 1) % 65536) (omega arith),
-        add-one n,
-        le-leb (suc n) (countOf (place .len - 2)) c,
-      )
+      let next : (n + 1) % 65536 ≡ suc n = omega arith in
+      rw (code-back n h, ne-eqb (suc n) n (λ z. omega arith), next, eq-eqb (suc n) (suc n) refl, add-one n, le-leb (suc n) (countOf (place .len - 2)) c)
 
   pub past-last : countOf (place .len - 2) ≤ n → onAcknowledge (Sending name (sub n)) place (acknowledgement (acknowledgeOf (sub n))) ≡ Negative 0x83 0x12
   unfolding onAcknowledge onSending onCode acknowledgement

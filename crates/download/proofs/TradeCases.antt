@@ -15,25 +15,27 @@ use Rattle.catalog.specs.declared.AnswerName.{AnswerName}
 use Rattle.split.specs.Codes.{sub, acknowledgeOf}
 use Rattle.split.specs.Split.{countOf, subField, subFrame}
 use Rattle.split.specs.Join.{framesFrom}
-use Rattle.split.proofs.Theorems.{split-252, split-253, split-501, split-502}
+use Rattle.split.proofs.Theorems.{split-252, split-253, split-501, split-502, count-most}
 use Rattle.store.specs.Layout.{narrow}
 use Rattle.store.specs.Read.{lookupNumber, lookupPlace, lookupPart}
 use Rattle.store.proofs.ReadLaws.{number-of-place}
 use Rattle.store.specs.Answer.{answerNumber}
 use Rattle.append.specs.Append.{roomNumber, appendNumber, withAnswer, appendOut}
-use Rattle.unit.specs.declared.UnitState.{UnitState}
-use Rattle.unit.specs.declared.Phase.the-variants.{Started, Session, Granted, Sending}
-use Rattle.unit.specs.declared.Reaction.{Reaction}
-use Rattle.unit.specs.declared.Reaction.the-variants.{SessionOpened, UploadGranted, AnswerSent, Negative}
-use Rattle.unit.specs.State.{isClosed, isGranted, possible}
-use Rattle.unit.specs.Services.{onSession, onUpload, answerFrom}
-use Rattle.unit.specs.Call.{onData, reactionTo, replyData, replyTo, unitReply}
+use Rattle.services.specs.declared.UnitState.{UnitState}
+use Rattle.services.specs.declared.Phase.the-variants.{Started, Session, Granted, Sending}
+use Rattle.services.specs.declared.Reaction.{Reaction}
+use Rattle.services.specs.declared.Reaction.the-variants.{SessionOpened, UploadGranted, AnswerSent, Negative}
+use Rattle.services.specs.State.{isClosed, isGranted}
+use Rattle.unit.specs.State.{possible}
+use Rattle.services.specs.Services.{onSession, onUpload, answerFrom}
+use Rattle.services.specs.Services.{onData}
+use Rattle.unit.specs.Call.{reactionTo, replyData, replyTo, unitReply}
 use Rattle.tool.specs.declared.Request.the-variants as requests
 use Rattle.tool.specs.Sent.{transferRequest, acknowledgement, transferData, frameSent}
 use Rattle.download.specs.TradeCases.{Called, Asked, lens, store12, TradeCases}
 use Rattle.download.proofs.Runs.{lookups, calls}
 use Rattle.download.proofs.StoreFacts.{held-place}
-use Rattle.download.proofs.FrameFacts.{asked-some, asked-most, asked-good, count-most}
+use Rattle.download.proofs.FrameFacts.{asked-some, asked-most, asked-good}
 use Rattle.download.proofs.ServiceFacts.{ranges, sending-held, granted-open, request-first, asked-first, transfer-asked, past-last, not-refused, heard}
 
 -- what a unit replies where nothing is refused

@@ -20,15 +20,17 @@ use Rattle.store.specs.Layout.{narrow}
 use Rattle.store.specs.Check.{storeNumber}
 use Rattle.store.specs.Read.{lookupNumber, lookupPlace, lookupPart}
 use Rattle.octets.proofs.OrderLaws.{or-zero}
-use Rattle.unit.specs.declared.Phase.{Phase}
-use Rattle.unit.specs.declared.Phase.the-variants.{Closed, Started, Session, Granted, Sending}
-use Rattle.unit.specs.declared.UnitState.{UnitState}
-use Rattle.unit.specs.declared.Reaction.{Reaction}
-use Rattle.unit.specs.declared.Reaction.the-variants.{AnswerSent}
-use Rattle.unit.specs.State.{isGranted, placeSent, sendable, phasePossible, possibleAt, possible}
-use Rattle.unit.specs.Services.{answerFrom, onAcknowledge}
-use Rattle.unit.specs.Call.{placeAsked, onData, reactionTo, withPhase, stateAfter, replyData, replyTo, numberBefore, unitNumber, unitState, unitReply}
-use Rattle.unit.specs.Call.{unitResult}
+use Rattle.services.specs.declared.Phase.{Phase}
+use Rattle.services.specs.declared.Phase.the-variants.{Closed, Started, Session, Granted, Sending}
+use Rattle.services.specs.declared.UnitState.{UnitState}
+use Rattle.services.specs.declared.Reaction.{Reaction}
+use Rattle.services.specs.declared.Reaction.the-variants.{AnswerSent}
+use Rattle.services.specs.State.{isGranted, sendable, phasePossible, possibleAt}
+use Rattle.unit.specs.State.{placeSent, possible}
+use Rattle.services.specs.Services.{answerFrom, onAcknowledge}
+use Rattle.services.specs.Services.{onData}
+use Rattle.services.specs.After.{withPhase, stateAfter}
+use Rattle.unit.specs.Call.{placeAsked, reactionTo, replyData, replyTo, numberBefore, unitNumber, unitState, unitReply, unitResult}
 use Rattle.tool.specs.declared.Request.the-variants as requests
 use Rattle.tool.specs.Sent.{acknowledgement, transferData, frameSent}
 use Rattle.tool.specs.Call.{requestNumber, beginNumber}

@@ -13,10 +13,11 @@ use Rattle.split.specs.Codes.{sub}
 use Rattle.split.specs.Split.{countOf}
 use Rattle.store.specs.Layout.{narrow}
 use Rattle.store.specs.Read.{lookupPart}
-use Rattle.unit.specs.declared.UnitState.{UnitState}
-use Rattle.unit.specs.declared.Phase.{Phase}
-use Rattle.unit.specs.declared.Phase.the-variants.{Granted, Sending}
-use Rattle.unit.specs.State.{sendable, phasePossible, possibleAt, possible}
+use Rattle.services.specs.declared.UnitState.{UnitState}
+use Rattle.services.specs.declared.Phase.{Phase}
+use Rattle.services.specs.declared.Phase.the-variants.{Granted, Sending}
+use Rattle.services.specs.State.{sendable, phasePossible, possibleAt}
+use Rattle.unit.specs.State.{possible}
 use Rattle.tool.specs.declared.Request.the-variants.{Transfer}
 use Rattle.tool.specs.declared.Outcome.the-variants.{Done, NoAnswer}
 use Rattle.tool.specs.State.{freshTool}

@@ -18,7 +18,7 @@ use Rattle.frame.specs.declared.Addresses.{Addresses}
 use Rattle.frame.specs.declared.End.the-variants as ends
 use Rattle.frame.specs.Frame.{judged}
 use Rattle.catalog.specs.declared.AnswerName.{AnswerName}
-use Rattle.unit.specs.declared.UnitState.{UnitState}
+use Rattle.services.specs.declared.UnitState.{UnitState}
 use Rattle.unit.specs.Call.{unitResult, unitReply}
 use Rattle.tool.specs.declared.Request.{Request}
 use Rattle.tool.specs.declared.ToolState.{ToolState}

@@ -18,9 +18,10 @@ use Rattle.catalog.specs.Table.{knownTo}
 use Rattle.split.specs.Split.{countOf, carries, subFrame}
 use Rattle.store.specs.Layout.{narrow}
 use Rattle.store.specs.Read.{lookupNumber, lookupPart}
-use Rattle.unit.specs.declared.UnitState.{UnitState}
-use Rattle.unit.specs.declared.Phase.{Phase}
-use Rattle.unit.specs.declared.Phase.the-variants.{Closed, Started, Session, Granted, Sending}
+use Rattle.services.specs.declared.UnitState.{UnitState}
+use Rattle.services.specs.declared.Phase.{Phase}
+use Rattle.services.specs.declared.Phase.the-variants.{Closed, Started, Session, Granted, Sending}
+use Rattle.services.specs.State.{isGranted}
 use Rattle.unit.specs.State as unitStates
 use Rattle.tool.specs.declared.Request.the-variants as requests
 use Rattle.tool.specs.declared.Outcome.{Outcome}
@@ -56,7 +57,7 @@ pub record Premises : Type 0 where
   pub fourBytes : name .day < 0x100000000
   -- the unit's state is possible with the store: granted, or sending this answer or another one
   pub possible : unitStates.possible store unit ≡ true
-  pub granted : unitStates.isGranted (unit .phase) ≡ true
+  pub granted : isGranted (unit .phase) ≡ true
   -- "A unit is of one kind and knows only its column"
   pub known : knownTo (unit .kind) (name .trep) ≡ true
   -- the store is unbroken and holds the answer

@@ -18,8 +18,9 @@ use Rattle.store.specs.Layout.{narrow}
 use Rattle.store.specs.Check.{storeNumber}
 use Rattle.store.specs.Read.{lookupNumber, lookupPart}
 use Rattle.append.specs.Append.{appendOut}
-use Rattle.unit.specs.declared.UnitState.{UnitState}
-use Rattle.unit.specs.declared.Phase.the-variants.{Started, Session, Granted, Sending}
+use Rattle.services.specs.declared.UnitState.{UnitState}
+use Rattle.services.specs.declared.Phase.the-variants.{Started, Session, Granted, Sending}
+use Rattle.services.specs.State.{isGranted}
 use Rattle.unit.specs.State as unitStates
 use Rattle.unit.specs.Call.{unitReply}
 use Rattle.tool.specs.declared.Request.the-variants as requests
@@ -58,7 +59,7 @@ pub record TradeCases : Type 0 where
       → unitReply lab store12 room u (0x80 ∷ 0xEE ∷ 0xF0 ∷ 0x02 ∷ 0x36 ∷ 0x00 ∷ 0x96 ∷ []) ≡ 0x80 ∷ 0xF0 ∷ 0xEE ∷ 0x04 ∷ 0x76 ∷ 0x00 ∷ 0x02 ∷ 0x02 ∷ 0xDC ∷ []
   -- W4: transfer of an answer not held, granted or sending
   pub w4 : (store : List ℕ) (u : UnitState) (room : ℕ) (name : AnswerName) → Called store u room → Asked u name
-      → unitStates.isGranted (u .phase) ≡ true → lookupNumber narrow name store ≡ 6
+      → isGranted (u .phase) ≡ true → lookupNumber narrow name store ≡ 6
       → unitReply lab store room u (frameOf lab ends.Unit (transferRequest name)) ≡ 0x80 ∷ 0xF0 ∷ 0xEE ∷ 0x03 ∷ 0x7F ∷ 0x36 ∷ 0xFA ∷ 0x10 ∷ []
   -- W5: transfer in session, held or not
   pub w5 : (store : List ℕ) (u : UnitState) (room : ℕ) (name : AnswerName) → Called store u room → Asked u name

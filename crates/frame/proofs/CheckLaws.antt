@@ -3,12 +3,14 @@ use Prim.Native.Nat.{ℕ, _+_, _-_, _≤_}
 use mathlib.Core.Bool.{Bool, true, false}
 use mathlib.Core.List.{List}
 use mathlib.Core.Path.{_≡_, refl, sym, _∙_}
+use native.Mathlib.Omega.{arith}
 use lib.Dec.{leb, ltb, eqb}
 use lib.ListN.{length, getD, take}
-use borrow.Author.Tests.{eq-eqb, ne-eqb, leb-true, eqb-true}
+use borrow.Author.Tests.{lt-ltb, le-ltb, eq-eqb, ne-eqb, leb-true, eqb-true}
 use Rattle.octets.proofs.OrderLaws.{unless-is}
 use Rattle.octets.proofs.Tests.{and-right}
-use Rattle.octets.proofs.CallLaws.{place-is, kept-by}
+use Rattle.octets.proofs.CallLaws.{place-refused}
+use Rattle.octets.specs.Numbers.{refusedPlace}
 use Rattle.octets.specs.Sum.{checksumOf}
 use Rattle.octets.specs.declared.Place.{Place}
 use Rattle.frame.specs.Frame.{isStart, knownFormat, countRight, startRight, addressed, checksumRight, judged, dataPlace}
@@ -23,6 +25,21 @@ start-at-unit end s r e q = rw e q
 pub start-at-tool : (end : End) (s : List ℕ) → end ≡ ends.Tool → false ≡ startRight end s
 unfolding startRight
 start-at-tool end s e = rw e
+
+-- The returns of `count_right`; n is LEN as a length
+module _ (s : List ℕ) where
+  pub count-without : getD s 0 0 ≡ 0x81 → eqb (length s) 5 ≡ countRight s
+  unfolding countRight
+  count-without h = rw (eq-eqb _ _ h)
+
+  module _ (general : getD s 0 0 ≡ 0x81 → ⊥) where
+    pub count-zero : getD s 3 0 ≡ 0 → false ≡ countRight s
+    unfolding countRight
+    count-zero z = rw (ne-eqb _ _ general, le-ltb 0 (getD s 3 0) (omega arith))
+
+    pub count-by-len : (n : ℕ) → (getD s 3 0 ≡ 0 → ⊥) → n ≡ getD s 3 0 → eqb (length s) (n + 5) ≡ countRight s
+    unfolding countRight
+    count-by-len n z e = rw (ne-eqb _ _ general, lt-ltb 0 (getD s 3 0) (omega arith), e)
 
 -- Everything that number 0 says
 pub record Good (a : Addresses) (end : End) (s : List ℕ) : Type 0 where
@@ -58,9 +75,9 @@ count-general s c e = eqb-true _ _ (and-right (ltb 0 (getD s 3 0)) _ (rw e at c)
 
 -- Where the data lies, from the tests of the code: r is the number that `check` gave, first and third the bytes read
 module _ (a : Addresses) (end : End) (s : List ℕ) (r : ℕ) (e : r ≡ judged a end s) where
-  pub place-refused : (r ≡ 0 → ⊥) → _≡_ {A = Place} (record { number = r; start = 0; len = 0 }) (dataPlace a end s)
+  pub place-none : (place : Place) → (r ≡ 0 → ⊥) → place ≡ refusedPlace r → place ≡ dataPlace a end s
   unfolding dataPlace
-  place-refused n = place-is r 0 0 _ _ _ e (kept-by r _ _ 0 e n) (kept-by r _ _ 0 e n)
+  place-none place n q = place-refused r _ _ _ place e n q
 
   pub place-start : (first : ℕ) → r ≡ 0 → first ≡ getD s 0 0 → first ≡ 0x81 → _≡_ {A = Place} (record { number = 0; start = 3; len = 1 }) (dataPlace a end s)
   unfolding dataPlace
@@ -68,7 +85,8 @@ module _ (a : Addresses) (end : End) (s : List ℕ) (r : ℕ) (e : r ≡ judged 
       let t : isStart s ≡ true = eq-eqb _ _ (sym f ∙ h) in
       rw (← e, z, t)
 
-  pub place-general : (first third n : ℕ) → r ≡ 0 → first ≡ getD s 0 0 → (first ≡ 0x81 → ⊥) → third ≡ getD s 3 0 → n ≡ third → _≡_ {A = Place} (record { number = 0; start = 4; len = n }) (dataPlace a end s)
+  pub place-general : (first third n : ℕ) → r ≡ 0 → first ≡ getD s 0 0 → (first ≡ 0x81 → ⊥) → third ≡ getD s 3 0 → n ≡ third
+      → _≡_ {A = Place} (record { number = 0; start = 4; len = n }) (dataPlace a end s)
   unfolding dataPlace
   place-general first third n z f h t m =
       let g : isStart s ≡ false = ne-eqb _ _ (λ q. h (f ∙ q)) in

@@ -31,7 +31,14 @@ module _ (a : Addresses) (end : End) (d : List ℕ) (some : 0 < length d) (most 
   unfolding judged countRight addressed frameOf closed
   write-then-check =
       let f : List ℕ = frameOf a end d in
-      simp (le-leb 5 (length f) (omega (arith, length-frame a end d)), lt-ltb 0 (length d) some, eq-eqb (length f) (length d + 5) (length-frame a end d), eq-eqb (target a end) (target a end) refl, eq-eqb (source a end) (source a end) refl, closed-sum (0x80 ∷ target a end ∷ source a end ∷ length d ∷ d))
+      simp (
+        le-leb 5 (length f) (omega (arith, length-frame a end d)),
+        lt-ltb 0 (length d) some,
+        eq-eqb (length f) (length d + 5) (length-frame a end d),
+        eq-eqb (target a end) (target a end) refl,
+        eq-eqb (source a end) (source a end) refl,
+        closed-sum (0x80 ∷ target a end ∷ source a end ∷ length d ∷ d),
+      )
 
   -- and its data reads back
   pub data-reads-back : dataOf a end (frameOf a end d) ≡ d
@@ -48,7 +55,8 @@ unfolding dataOf dataPlace closed
 start-data a = rw start-good
 
 -- "One changed byte .. is always refused"
-module _ (a : Addresses) (end : End) (f : List ℕ) (right : judged a end f ≡ 0) (i b : ℕ) (inside : i < length f) (byte : b < 256) (was : getD f i 0 < 256) (other : b ≢ getD f i 0) where
+module _ (a : Addresses) (end : End) (f : List ℕ) (right : judged a end f ≡ 0) (i b : ℕ) (inside : i < length f) (byte : b < 256)
+    (was : getD f i 0 < 256) (other : b ≢ getD f i 0) where
   pub changed-refused : judged a end (set f i b) ≢ 0
   changed-refused again =
       let n = length f - 1 in
@@ -62,7 +70,8 @@ module _ (a : Addresses) (end : End) (f : List ℕ) (right : judged a end f ≡ 
             omega (arith, total-set (take n f) i b (simp length-take (omega arith)))
         | no h ↦
             let q : i ≡ n = omega arith in
-            let z : checksumOf (take n f) ≡ b = rw (take-set-le n f i b (omega arith)) at e₂ ∙ ap (λ (j : ℕ). getD (set f i b) j 0) (sym q) ∙ getD-set-same f i b 0 inside in
+            let s : getD (set f i b) n 0 ≡ b = ap (λ (j : ℕ). getD (set f i b) j 0) (sym q) ∙ getD-set-same f i b 0 inside in
+            let z : checksumOf (take n f) ≡ b = rw (take-set-le n f i b (omega arith)) at e₂ ∙ s in
             omega (arith, ap (λ (j : ℕ). getD f j 0) q)
       ]
 
@@ -78,7 +87,8 @@ module _ (a : Addresses) (end : End) (f : List ℕ) (right : judged a end f ≡ 
       let three : getD (take n f) 3 0 ≡ getD f 3 0 = getD-take n f 3 0 (omega arith) in
       go (isStart f) refl g h m zero three
     where
-      go : (t : Bool) → isStart f ≡ t → Good a end f → Good a end (take n f) → length (take n f) ≡ n → getD (take n f) 0 0 ≡ getD f 0 0 → getD (take n f) 3 0 ≡ getD f 3 0 → ⊥
+      go : (t : Bool) → isStart f ≡ t → Good a end f → Good a end (take n f) → length (take n f) ≡ n → getD (take n f) 0 0 ≡ getD f 0 0
+          → getD (take n f) 3 0 ≡ getD f 3 0 → ⊥
       go true e g h m zero three =
           let s : isStart (take n f) ≡ true = rw zero e in
           omega (arith, count-start f (g .count) e, count-start (take n f) (h .count) s)

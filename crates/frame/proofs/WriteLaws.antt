@@ -49,10 +49,12 @@ module _ (p r : List ℕ) (room : ℕ) where
     pub kept-long : 255 < length p + length r → old ≡ changedBy (writeNumber (length (p ++ r)) room) new old
     kept-long h = kept 1 _ new old (number-long h) refl
 
-    pub kept-short : (length p + length r ≡ 0 → ⊥) → length p + length r ≤ 255 → room < length p + length r + 5 → old ≡ changedBy (writeNumber (length (p ++ r)) room) new old
+    pub kept-short : (length p + length r ≡ 0 → ⊥) → length p + length r ≤ 255 → room < length p + length r + 5
+        → old ≡ changedBy (writeNumber (length (p ++ r)) room) new old
     kept-short z l h = kept 4 _ new old (number-short z l h) refl
 
-  pub length-good : (length p + length r ≡ 0 → ⊥) → length p + length r ≤ 255 → length p + length r + 5 ≤ room → length p + length r + 5 ≡ changedBy (writeNumber (length (p ++ r)) room) (length (p ++ r) + 5) 0
+  pub length-good : (length p + length r ≡ 0 → ⊥) → length p + length r ≤ 255 → length p + length r + 5 ≤ room
+      → length p + length r + 5 ≡ changedBy (writeNumber (length (p ++ r)) room) (length (p ++ r) + 5) 0
   length-good z l h = changed _ _ (length (p ++ r) + 5) 0 (number-good z l h) (rw two)
 
 -- four stores at the front are the header
@@ -64,7 +66,8 @@ pub put-one : (at x y : ℕ) (o : List ℕ) → at < length o → x ≡ y → se
 put-one at x y o h e = rw (← e) (stores-put at (x ∷ []) o (omega arith))
 
 -- header, both parts of the data and the checksum, one behind the other, are the frame
-module _ (a : Addresses) (end : End) (p r o o₁ o₂ o₃ o₄ : List ℕ) (t s : ℕ) (z : length p + length r ≡ 0 → ⊥) (l : length p + length r ≤ 255) (h : length p + length r + 5 ≤ length o) where
+module _ (a : Addresses) (end : End) (p r o o₁ o₂ o₃ o₄ : List ℕ) (t s : ℕ) (z : length p + length r ≡ 0 → ⊥) (l : length p + length r ≤ 255)
+    (h : length p + length r + 5 ≤ length o) where
   pub framed : t ≡ target a end → s ≡ source a end → o₁ ≡ front (0x80 ∷ t ∷ s ∷ (length p + length r) ∷ []) o → o₂ ≡ put 4 p o₁ → o₃ ≡ put (length p + 4) r o₂
       → o₄ ≡ put (length p + length r + 4) (checksumOf (take (length p + length r + 4) o₃) ∷ []) o₃
       → o₄ ≡ changedBy (writeNumber (length (p ++ r)) (length o)) (front (frameOf a end (p ++ r)) o) o
@@ -77,7 +80,8 @@ module _ (a : Addresses) (end : End) (p r o o₁ o₂ o₃ o₄ : List ℕ) (t s
       let f₁ : o₁ ≡ front q o = rw (e, ← et, ← es) e₁ in
       let f₂ : o₂ ≡ front (q ++ p) o = e₂ ∙ ap (put 4 p) f₁ ∙ put-front 4 q p o refl in
       let f₃ : o₃ ≡ front b o = e₃ ∙ ap (put (length p + 4) r) f₂ ∙ put-front (length p + 4) (q ++ p) r o (omega arith) in
-      let f₄ : o₄ ≡ front (b ++ (checksumOf b ∷ [])) o = rw (e₄, f₃, take-front (length p + length r + 4) b o k) (put-front (length p + length r + 4) b _ o k) in
+      let f₄ : o₄ ≡ front (b ++ (checksumOf b ∷ [])) o =
+      rw (e₄, f₃, take-front (length p + length r + 4) b o k) (put-front (length p + length r + 4) b _ o k) in
       changed _ o₄ (front (b ++ (checksumOf b ∷ [])) o) o (number-good p r (length o) z l h) f₄
 
 -- the five-byte start: the string that is copied, and a buffer that is too short for it
@@ -85,6 +89,7 @@ pub start-short : (o : List ℕ) → length o < 5 → (_≡_ {A = Written} (reco
 unfolding startResult startOut
 start-short o h = rw (lt-leb 5 (length o) h) (refl, refl)
 
-pub start-written : (o o′ : List ℕ) → 5 ≤ length o → o′ ≡ copied (0x81 ∷ 0xEE ∷ 0xF0 ∷ 0x81 ∷ 0xE0 ∷ []) o → (_≡_ {A = Written} (record { number = 0; len = 5 }) (startResult (length o))) × (o′ ≡ startOut lab o)
+pub start-written : (o o′ : List ℕ) → 5 ≤ length o → o′ ≡ copied (0x81 ∷ 0xEE ∷ 0xF0 ∷ 0x81 ∷ 0xE0 ∷ []) o
+    → (_≡_ {A = Written} (record { number = 0; len = 5 }) (startResult (length o))) × (o′ ≡ startOut lab o)
 unfolding closed startResult startOut
 start-written o o′ h e = rw (le-leb 5 (length o) h) (refl, e ∙ copied-fits _ o (omega arith))

@@ -5,7 +5,8 @@ use mathlib.Core.List.{List, [], _∷_, _++_}
 use lib.ListN.{length, getD, take}
 use lib.Dec.{ltb, leb, eqb}
 use Rattle.octets.specs.Order.{unless}
-use Rattle.octets.specs.Numbers.{done, frameCount, formatOrAddress, checksumWrong, bufferShort, changedBy, writtenBy, placeBy}
+use Rattle.octets.specs.Numbers.{done, frameCount, formatOrAddress, checksumWrong, bufferShort, changedBy, writtenBy}
+use Rattle.octets.specs.Numbers.{placeBy}
 use Rattle.octets.specs.Sum.{checksumOf}
 use Rattle.octets.specs.Buffer.{partAt, front}
 use Rattle.octets.specs.declared.Written.{Written}

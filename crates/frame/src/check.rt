@@ -1,15 +1,19 @@
 // Judging a frame at the end that it arrives at, and its data part.
 use crate::Addresses;
 use crate::End;
+use crate::GENERAL;
 use crate::LAB;
+use crate::WITHOUT_LEN;
 use octets::Place;
 use octets::numbers::CHECKSUM_WRONG;
 use octets::numbers::FORMAT_OR_ADDRESS;
 use octets::numbers::FRAME_COUNT;
+use octets::wire::START_COMMUNICATION;
 ghost use mathlib.Core.Path.{_≡_};
 ghost use Prim.Native.Nat.{_≤_};
 ghost use lib.ListN.{length};
-ghost use Rattle.frame.specs.Frame.{lab, target, source, knownFormat, countRight, addressed, startRight, checksumRight, judged, dataPlace, dataOf};
+ghost use Rattle.frame.specs.Frame.{lab, target, source, knownFormat, countRight, addressed, startRight};
+ghost use Rattle.frame.specs.Frame.{checksumRight, judged, dataPlace, dataOf};
 
 // The address that a frame arriving at `end` goes to.
 pub(crate) fn target_of(addresses: Addresses, end: End) -> u8
@@ -34,7 +38,7 @@ pub(crate) fn source_of(addresses: Addresses, end: End) -> u8
 fn known_format(first: u8) -> bool
     ensures { λ r. ⌜ r ≡ knownFormat first ⌝ }
 {
-    (first == 0x80) | (first == 0x81)
+    (first == GENERAL) | (first == WITHOUT_LEN)
 }
 
 fn count_right(frame: &[u8]) -> bool
@@ -42,11 +46,13 @@ fn count_right(frame: &[u8]) -> bool
     ensures { λ r. ⌜ r ≡ countRight (now (frame .entry)) ⌝ }
 {
     let len = frame[3];
-    if frame[0] == 0x81 {
-        frame.len() == 5
-    } else {
-        0 < len && frame.len() == octets::big_endian::wide(len) + 5
+    if frame[0] == WITHOUT_LEN {
+        return frame.len() == 5;
     }
+    if len == 0 {
+        return false;
+    }
+    frame.len() == octets::big_endian::wide(len) + 5
 }
 
 fn start_right(frame: &[u8], end: End) -> bool
@@ -54,7 +60,7 @@ fn start_right(frame: &[u8], end: End) -> bool
     ensures { λ r. ⌜ r ≡ startRight «end» (now (frame .entry)) ⌝ }
 {
     match end {
-        End::Unit => frame[3] == 0x81,
+        End::Unit => frame[3] == START_COMMUNICATION,
         End::Tool => false,
     }
 }
@@ -69,7 +75,7 @@ fn addressed_to(frame: &[u8], addresses: Addresses, end: End) -> bool
     if frame[2] != source_of(addresses, end) {
         return false;
     }
-    if frame[0] != 0x81 {
+    if frame[0] != WITHOUT_LEN {
         return true;
     }
     start_right(frame, end)
@@ -118,13 +124,9 @@ pub fn locate(frame: &[u8], end: End) -> Place
 {
     let number = check(frame, end);
     if number != 0 {
-        return Place {
-            number,
-            start: 0,
-            len: 0,
-        };
+        return octets::refused_place(number);
     }
-    if octets::big_endian::byte_at(frame, 0) == 0x81 {
+    if octets::big_endian::byte_at(frame, 0) == WITHOUT_LEN {
         return Place {
             number: 0,
             start: 3,

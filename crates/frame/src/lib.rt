@@ -16,6 +16,11 @@ pub struct Addresses {
     pub tool: u8,
 }
 
+// The first byte of a frame: the general form, and the one without LEN, of start communication alone.
+pub(crate) const GENERAL: u8 = 0x80;
+
+pub(crate) const WITHOUT_LEN: u8 = 0x81;
+
 // Unit address EE, tool address F0.
 pub const LAB: Addresses = Addresses {
     unit: 0xEE,

@@ -1,4 +1,5 @@
-// The fixed messages of the protocol as byte strings: requests that the tool writes and the unit compares, replies the other way round.
+// The fixed messages of the protocol as byte strings: requests that the tool writes and the unit compares, replies the
+// other way round.
 use octets::Written;
 use octets::numbers::BUFFER_SHORT;
 ghost use mathlib.Core.Path.{_≡_};

@@ -1,6 +1,7 @@
 // Writing frames in the general form.
 use crate::Addresses;
 use crate::End;
+use crate::GENERAL;
 use crate::LAB;
 use octets::Written;
 use octets::numbers::BUFFER_SHORT;
@@ -18,7 +19,7 @@ fn write_header(out: &mut [u8], target: u8, source: u8, len: u8)
     requires { ⌜ 4 ≤ length (now out) ⌝ }
     ensures { λ _. ⌜ now (out .exit) ≡ front (0x80 ∷ target ∷ source ∷ len ∷ []) (now (out .entry)) ⌝ }
 {
-    out[0] = 0x80;
+    out[0] = GENERAL;
     out[1] = target;
     out[2] = source;
     out[3] = len;
@@ -49,7 +50,10 @@ pub(crate) fn write_frame(
     out: &mut [u8],
 ) -> Written
     ensures { λ r. ⌜ r ≡ writeResult (now (head .entry) ++ now (rest .entry)) (length (now (out .entry))) ⌝ }
-    ensures { λ _. ⌜ now (out .exit) ≡ writeOut addresses «end» (now (head .entry) ++ now (rest .entry)) (now (out .entry)) ⌝ }
+    ensures { λ _. ⌜
+        now (out .exit)
+        ≡ writeOut addresses «end» (now (head .entry) ++ now (rest .entry)) (now (out .entry))
+        ⌝ }
 {
     let first = head.len();
     let len = first + rest.len();
@@ -86,15 +90,20 @@ pub(crate) fn write_frame(
     }
 }
 
-// Writes the frame to `end` whose data is `head` and then `rest` at the front of `out`, so that a small header needs no copy of the rest.
+// Writes the frame to `end` whose data is `head` and then `rest` at the front of `out`, so that a small header needs no
+// copy of the rest.
 pub fn write_two(head: &[u8], rest: &[u8], end: End, out: &mut [u8]) -> Written
     ensures { λ r. ⌜ r ≡ writeResult (now (head .entry) ++ now (rest .entry)) (length (now (out .entry))) ⌝ }
-    ensures { λ _. ⌜ now (out .exit) ≡ writeOut lab «end» (now (head .entry) ++ now (rest .entry)) (now (out .entry)) ⌝ }
+    ensures { λ _. ⌜
+        now (out .exit)
+        ≡ writeOut lab «end» (now (head .entry) ++ now (rest .entry)) (now (out .entry))
+        ⌝ }
 {
     write_frame(head, rest, LAB, end, out)
 }
 
-// Writes the frame to `end` with this data at the front of `out`: 1 for no data or over 255 bytes, 4 where `out` is shorter than the frame.
+// Writes the frame to `end` with this data at the front of `out`: 1 for no data or over 255 bytes, 4 where `out` is
+// shorter than the frame.
 pub fn write(data: &[u8], end: End, out: &mut [u8]) -> Written
     ensures { λ r. ⌜ r ≡ writeResult (now («data» .entry)) (length (now (out .entry))) ⌝ }
     ensures { λ _. ⌜ now (out .exit) ≡ writeOut lab «end» (now («data» .entry)) (now (out .entry)) ⌝ }

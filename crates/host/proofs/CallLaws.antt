@@ -17,8 +17,9 @@ use Rattle.frame.specs.Frame.{lab, judged}
 use Rattle.catalog.specs.declared.AnswerName.{AnswerName}
 use Rattle.store.specs.Layout.{narrow}
 use Rattle.store.specs.Check.{storeNumber}
-use Rattle.unit.specs.declared.UnitState.{UnitState}
+use Rattle.services.specs.declared.UnitState.{UnitState}
 use Rattle.unit.specs.declared.UnitReply.{UnitReply}
+use Rattle.services.specs.State.{freshUnit, possibleAt}
 use Rattle.unit.specs.State as unit-state
 use Rattle.unit.specs.Call.{numberBefore, unitNumber, unitResult, unitOut}
 use Rattle.tool.specs.declared.Request.{Request}
@@ -52,7 +53,7 @@ turn-taken false n before size b state none z = absurd (let e = or-zero before 1
 
 -- bytes that are no state: "5, 11", whatever follows
 pub unit-impossible : (store : List ℕ) (room : ℕ) (b f : List ℕ) → isUnit b ≡ false → unitNumber lab store room (unpackedUnit b) f ≡ orElse (storeNumber narrow store) 11
-unfolding unitNumber numberBefore unit-state.possible unit-state.possibleAt
+unfolding unitNumber numberBefore unit-state.possible possibleAt
 unit-impossible store room b f h =
     rw (← unit-none b noUnit h refl) (or-refused (storeNumber narrow store) 11 (judged lab ends.Unit f) refl)
 
@@ -110,7 +111,7 @@ module _ (kind : ℕ) (b : List ℕ) where
     unfolding unitFreshNumber
     fresh-good h = rw (lt-ltb kind 3 k, le-leb 11 (length b) h)
 
-    pub fresh-good-packed : (u : UnitState) (b′ : List ℕ) → 11 ≤ length b → u ≡ unit-state.freshUnit kind → b′ ≡ copied (packedUnit u) b → b′ ≡ unitFreshState kind b
+    pub fresh-good-packed : (u : UnitState) (b′ : List ℕ) → 11 ≤ length b → u ≡ freshUnit kind → b′ ≡ copied (packedUnit u) b → b′ ≡ unitFreshState kind b
     unfolding unitFreshNumber unitFreshState
     fresh-good-packed u b′ h e q =
         rw (lt-ltb kind 3 k, le-leb 11 (length b) h, ← e) (q ∙ copied-fits (packedUnit u) b (omega (arith, length-unit u)))

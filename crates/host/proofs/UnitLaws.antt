@@ -15,9 +15,9 @@ use Rattle.catalog.specs.declared.AnswerName.{AnswerName}
 use Rattle.split.specs.declared.SubMessage.{SubMessage}
 use Rattle.split.specs.Codes.{sub}
 use Rattle.tool.specs.State.{noName}
-use Rattle.unit.specs.declared.Phase.{Phase}
-use Rattle.unit.specs.declared.Phase.the-variants.{Closed, Started, Session, Granted, Sending}
-use Rattle.unit.specs.declared.UnitState.{UnitState}
+use Rattle.services.specs.declared.Phase.{Phase}
+use Rattle.services.specs.declared.Phase.the-variants.{Closed, Started, Session, Granted, Sending}
+use Rattle.services.specs.declared.UnitState.{UnitState}
 use Rattle.host.specs.Packed.{phaseByte, phaseFrom, nameSent, lastSent, packedUnit, unitName, unitLast, sendsNothing, isUnit, noUnit, unpackedUnit}
 use Rattle.host.proofs.FieldLaws.{spelled, field-two, field-back}
 
@@ -78,7 +78,8 @@ module _ (b : List ℕ) where
 
 -- Packing
 
-pub unit-packed : (u : UnitState) (byte : ℕ) (name : AnswerName) (last : SubMessage) (o o′ : List ℕ) → byte ≡ phaseByte (u .phase) → name ≡ nameSent (u .phase) → last ≡ lastSent (u .phase) →
+pub unit-packed : (u : UnitState) (byte : ℕ) (name : AnswerName) (last : SubMessage) (o o′ : List ℕ) → byte ≡ phaseByte (u .phase) → name ≡ nameSent (u .phase)
+    → last ≡ lastSent (u .phase) →
     o′ ≡ copied (u .kind ∷ u .rate ∷ u .pending ∷ byte ∷ name .trep ∷ name .day / 256 / 256 / 256 % 256 ∷ name .day / 256 / 256 % 256 ∷ name .day / 256 % 256 ∷ name .day % 256 ∷ last .0 / 256 % 256 ∷ last .0 % 256 ∷ []) o →
     o′ ≡ copied (packedUnit u) o
 unfolding packedUnit
@@ -93,7 +94,8 @@ pub unit-back : (u : UnitState) → nameSent (u .phase) .day < 4294967296 → la
 unfolding unpackedUnit packedUnit isUnit phaseFrom numberAt
 unit-back u = at (u .kind) (u .rate) (u .pending) (u .phase)
   where
-    at : (k r p : ℕ) (h : Phase) → nameSent h .day < 4294967296 → lastSent h .0 < 65536 → unpackedUnit (packedUnit (record { kind = k; rate = r; pending = p; phase = h })) ≡ record { kind = k; rate = r; pending = p; phase = h }
+    at : (k r p : ℕ) (h : Phase) → nameSent h .day < 4294967296 → lastSent h .0 < 65536
+        → unpackedUnit (packedUnit (record { kind = k; rate = r; pending = p; phase = h })) ≡ record { kind = k; rate = r; pending = p; phase = h }
     at k r p Closed d l = refl
     at k r p Started d l = refl
     at k r p Session d l = refl

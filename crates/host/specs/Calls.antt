@@ -11,7 +11,7 @@ use Rattle.octets.specs.declared.Written.{Written}
 use Rattle.frame.specs.Frame.{lab}
 use Rattle.catalog.specs.declared.AnswerName.{AnswerName}
 use Rattle.unit.specs.declared.UnitReply.{UnitReply}
-use Rattle.unit.specs.State.{freshUnit}
+use Rattle.services.specs.State.{freshUnit}
 use Rattle.unit.specs.Call.{unitResult, unitOut}
 use Rattle.tool.specs.declared.ToolStep.{ToolStep}
 use Rattle.tool.specs.State.{freshTool}

@@ -9,9 +9,9 @@ use Rattle.octets.specs.BigEndian.{bytesOf, numberAt}
 use Rattle.catalog.specs.declared.AnswerName.{AnswerName}
 use Rattle.split.specs.declared.SubMessage.{SubMessage}
 use Rattle.split.specs.Codes.{sub}
-use Rattle.unit.specs.declared.Phase.{Phase}
-use Rattle.unit.specs.declared.Phase.the-variants.{Closed, Started, Session, Granted, Sending}
-use Rattle.unit.specs.declared.UnitState.{UnitState}
+use Rattle.services.specs.declared.Phase.{Phase}
+use Rattle.services.specs.declared.Phase.the-variants.{Closed, Started, Session, Granted, Sending}
+use Rattle.services.specs.declared.UnitState.{UnitState}
 use Rattle.tool.specs.declared.Request.{Request}
 use Rattle.tool.specs.declared.Request.the-variants as requests
 use Rattle.tool.specs.declared.Outcome.{Outcome}

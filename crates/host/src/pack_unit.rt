@@ -2,12 +2,13 @@
 use catalog::AnswerName;
 use octets::big_endian::byte_at;
 use octets::big_endian::number_at;
+use services::Phase;
+use services::UnitState;
 use split::SubMessage;
-use unit::Phase;
-use unit::UnitState;
 ghost use mathlib.Core.Path.{_≡_};
 ghost use Rattle.octets.specs.Buffer.{copied};
-ghost use Rattle.host.specs.Packed.{phaseByte, phaseFrom, nameSent, lastSent, packedUnit, isUnit, noUnit, unpackedUnit};
+ghost use Rattle.host.specs.Packed.{phaseByte, phaseFrom, nameSent, lastSent, packedUnit, isUnit, noUnit};
+ghost use Rattle.host.specs.Packed.{unpackedUnit};
 
 // The bytes of a packed state.
 pub(crate) const SIZE: usize = 11;

@@ -5,7 +5,8 @@ use octets::numbers::OUT_OF_TURN;
 use unit::UnitReply;
 ghost use mathlib.Core.Path.{_≡_};
 ghost use lib.ListN.{length};
-ghost use Rattle.host.specs.Calls.{unitFreshNumber, unitFreshState, unitHanded, unitKept, unitStep, unitStepReply};
+ghost use Rattle.host.specs.Calls.{unitFreshNumber, unitFreshState, unitHanded, unitKept, unitStep};
+ghost use Rattle.host.specs.Calls.{unitStepReply};
 
 // The state of a unit of this kind that was just switched on. 11 for a kind out of range, 4 for too few bytes.
 #[no_mangle]
@@ -19,7 +20,7 @@ pub extern "C" fn tacho_unit_fresh(kind: u8, state: &mut [u8]) -> u8
     if state.len() < crate::pack_unit::SIZE {
         return BUFFER_SHORT;
     }
-    crate::pack_unit::pack(unit::state::fresh(kind), state);
+    crate::pack_unit::pack(services::state::fresh(kind), state);
     0
 }
 

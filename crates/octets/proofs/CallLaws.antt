@@ -6,7 +6,7 @@ use mathlib.Core.List.{List}
 use lib.Dec.{eqb}
 use borrow.Author.Tests.{ne-eqb}
 use Rattle.octets.specs.Buffer.{partAt}
-use Rattle.octets.specs.Numbers.{changedBy, writtenBy, placeBy, countedBy}
+use Rattle.octets.specs.Numbers.{changedBy, writtenBy, placeBy, refusedPlace, countedBy}
 use Rattle.octets.specs.declared.Written.{Written}
 use Rattle.octets.specs.declared.Place.{Place}
 use Rattle.octets.specs.declared.Counted.{Counted}
@@ -41,6 +41,9 @@ module _ {A : Type 0} where
 
   pub changed-by : (r number : ℕ) (x new old : A) → r ≡ number → r ≡ 0 → x ≡ new → x ≡ changedBy number new old
   changed-by r number x new old e n q = changed number x new old (sym n ∙ e) q
+
+pub place-refused : (r number start m : ℕ) (place : Place) → r ≡ number → (r ≡ 0 → ⊥) → place ≡ refusedPlace r → place ≡ placeBy number start m
+place-refused r number start m place e n q = q ∙ place-is r 0 0 number start m e (kept-by r number start 0 e n) (kept-by r number m 0 e n)
 
 pub zero-by : (r number : ℕ) → r ≡ number → r ≡ 0 → 0 ≡ number
 zero-by r number e n = sym n ∙ e

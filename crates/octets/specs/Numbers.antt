@@ -56,8 +56,7 @@ abbrev pub notInTable : ℕ
 notInTable = 12
 
 -- Results that carry a number. "Each returns its number with the state as handed in, and writes nothing": whatever a
--- call gives or changes,
--- it does so only where its number is 0.
+-- call gives or changes, it does so only where its number is 0.
 
 module _ {A : Type 0} where
   -- the new value where nothing is refused, else the old one
@@ -71,6 +70,9 @@ writtenBy number n = record { number = number; len = changedBy number n 0 }
 -- "Where a part .. is handed back, a twin call gives the number; refused, the part is empty"
 abbrev pub placeBy : ℕ → ℕ → ℕ → Place
 placeBy number start n = record { number = number; start = changedBy number start 0; len = changedBy number n 0 }
+
+abbrev pub refusedPlace : ℕ → Place
+refusedPlace number = record { number = number; start = 0; len = 0 }
 
 -- a count, or a refusal
 abbrev pub countedBy : ℕ → ℕ → Counted

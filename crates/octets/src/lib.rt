@@ -6,6 +6,9 @@ pub mod numbers;
 pub mod sum;
 pub mod wire;
 
+ghost use mathlib.Core.Path.{_≡_};
+ghost use Rattle.octets.specs.Numbers.{refusedPlace};
+
 // What a call that writes hands back: number 0 and the bytes at the front of the lent buffer, or a refusal and 0.
 #[repr(C)]
 pub struct Written {
@@ -19,6 +22,17 @@ pub struct Place {
     pub number: u8,
     pub start: usize,
     pub len: usize,
+}
+
+// A refusal, with an empty part.
+pub fn refused_place(number: u8) -> Place
+    ensures { λ r. ⌜ r ≡ refusedPlace number ⌝ }
+{
+    Place {
+        number,
+        start: 0,
+        len: 0,
+    }
 }
 
 // A count, or a refusal and 0.

@@ -1,6 +1,4 @@
 // The house numbers of document 01. 0 stands for "not refused".
-pub const DONE: u8 = 0;
-
 pub const FRAME_COUNT: u8 = 1;
 
 pub const FORMAT_OR_ADDRESS: u8 = 2;

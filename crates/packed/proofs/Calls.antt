@@ -13,11 +13,12 @@ use Rattle.octets.proofs.NumberLaws.{number-fits}
 use Rattle.frame.specs.Frame.{lab}
 use Rattle.catalog.specs.declared.AnswerName.{AnswerName}
 use Rattle.split.specs.declared.SubMessage.{SubMessage}
-use Rattle.unit.specs.declared.Phase.{Phase}
-use Rattle.unit.specs.declared.Phase.the-variants.{Closed, Started, Session, Granted, Sending}
-use Rattle.unit.specs.declared.UnitState.{UnitState}
-use Rattle.unit.specs.State.{freshUnit}
-use Rattle.unit.specs.Call.{reactionTo, stateAfter, unitNumber, unitState, unitReply, unitResult, unitOut}
+use Rattle.services.specs.declared.Phase.{Phase}
+use Rattle.services.specs.declared.Phase.the-variants.{Closed, Started, Session, Granted, Sending}
+use Rattle.services.specs.declared.UnitState.{UnitState}
+use Rattle.services.specs.State.{freshUnit}
+use Rattle.services.specs.After.{stateAfter}
+use Rattle.unit.specs.Call.{reactionTo, unitNumber, unitState, unitReply, unitResult, unitOut}
 use Rattle.unit.proofs.BoundLaws as units
 use Rattle.tool.specs.declared.Request.{Request}
 use Rattle.tool.specs.declared.Meaning.{Meaning}

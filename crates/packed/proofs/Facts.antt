@@ -9,8 +9,9 @@ use Rattle.octets.proofs.Tests.{never}
 use Rattle.frame.specs.Frame.{lab}
 use Rattle.split.specs.Split.{isSplit, countOf}
 use Rattle.split.specs.Codes.{sub}
-use Rattle.unit.specs.declared.Phase.the-variants.{Granted, Sending}
-use Rattle.unit.specs.declared.UnitState.{UnitState}
+use Rattle.services.specs.declared.Phase.the-variants.{Granted, Sending}
+use Rattle.services.specs.declared.UnitState.{UnitState}
+use Rattle.services.specs.State.{possibleAt}
 use Rattle.unit.specs.State as unitStates
 use Rattle.unit.proofs.BoundLaws as unitBounds
 use Rattle.tool.specs.declared.Request.the-variants as requests
@@ -37,7 +38,7 @@ use Rattle.packed.proofs.Calls.{ended-waited}
 
 -- bytes that are read as a possible state are a state
 none-impossible : (store : List ℕ) → unitStates.possible store noUnit ≡ false
-unfolding unitStates.possible unitStates.possibleAt
+unfolding unitStates.possible possibleAt
 none-impossible store = refl
 
 is-state : (b store : List ℕ) → unitStates.possible store (unpackedUnit b) ≡ true → isUnit b ≡ true

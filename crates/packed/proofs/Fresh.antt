@@ -13,12 +13,14 @@ use Rattle.catalog.specs.Name.{nameNumber}
 use Rattle.catalog.specs.declared.AnswerName.{AnswerName}
 use Rattle.store.specs.Layout.{narrow}
 use Rattle.store.specs.Check.{storeNumber}
-use Rattle.unit.specs.declared.Phase.{Phase}
-use Rattle.unit.specs.declared.Phase.the-variants.{Closed, Started, Session, Granted}
-use Rattle.unit.specs.declared.UnitState.{UnitState}
-use Rattle.unit.specs.State.{freshUnit, phasePossible, possibleAt, possible}
-use Rattle.unit.specs.Services.{onSession, onUpload}
-use Rattle.unit.specs.Call.{reactionTo, stateAfter, unitNumber, unitState, unitResult}
+use Rattle.services.specs.declared.Phase.{Phase}
+use Rattle.services.specs.declared.Phase.the-variants.{Closed, Started, Session, Granted}
+use Rattle.services.specs.declared.UnitState.{UnitState}
+use Rattle.services.specs.State.{freshUnit, phasePossible, possibleAt}
+use Rattle.unit.specs.State.{possible}
+use Rattle.services.specs.Services.{onSession, onUpload}
+use Rattle.services.specs.After.{stateAfter}
+use Rattle.unit.specs.Call.{reactionTo, unitNumber, unitState, unitResult}
 use Rattle.unit.proofs.BoundLaws as units
 use Rattle.tool.specs.declared.Request.{Request}
 use Rattle.tool.specs.declared.Request.the-variants as requests

@@ -10,9 +10,10 @@ use borrow.Author.Tests.{le-leb, lt-ltb}
 use Rattle.octets.specs.Buffer.{Bytes, front}
 use Rattle.frame.specs.Frame.{lab}
 use Rattle.catalog.specs.declared.AnswerName.{AnswerName}
-use Rattle.unit.specs.declared.UnitState.{UnitState}
-use Rattle.unit.specs.State.{freshUnit}
-use Rattle.unit.specs.Call.{reactionTo, stateAfter, unitNumber, unitState, unitResult}
+use Rattle.services.specs.declared.UnitState.{UnitState}
+use Rattle.services.specs.State.{freshUnit}
+use Rattle.services.specs.After.{stateAfter}
+use Rattle.unit.specs.Call.{reactionTo, unitNumber, unitState, unitResult}
 use Rattle.unit.proofs.BoundLaws as units
 use Rattle.tool.specs.declared.ToolState.{ToolState}
 use Rattle.tool.specs.declared.Meaning.{Meaning}

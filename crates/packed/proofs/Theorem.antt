@@ -6,7 +6,7 @@ use native.Mathlib.Omega.{arith}
 use lib.ListN.{length}
 use Rattle.frame.specs.Frame.{lab}
 use Rattle.split.specs.Split.{countOf}
-use Rattle.unit.specs.declared.UnitState.{UnitState}
+use Rattle.services.specs.declared.UnitState.{UnitState}
 use Rattle.tool.proofs.BoundLaws as toolBounds
 use Rattle.host.specs.Packed.{packedUnit, unpackedUnit, packedTool, unpackedTool}
 use Rattle.line.specs.Line.{System, Event}

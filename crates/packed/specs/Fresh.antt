@@ -13,7 +13,7 @@ use Rattle.catalog.specs.Name.{nameNumber}
 use Rattle.catalog.specs.declared.AnswerName.{AnswerName}
 use Rattle.store.specs.Layout.{narrow}
 use Rattle.store.specs.Check.{storeNumber}
-use Rattle.unit.specs.declared.Phase.the-variants.{Granted}
+use Rattle.services.specs.declared.Phase.the-variants.{Granted}
 use Rattle.tool.specs.declared.Request.{Request}
 use Rattle.tool.specs.declared.Request.the-variants as requests
 use Rattle.tool.specs.State.{noName}

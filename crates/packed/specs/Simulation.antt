@@ -10,8 +10,8 @@ use lib.ListN.{length}
 use Rattle.octets.specs.Buffer.{Bytes}
 use Rattle.frame.specs.Frame.{lab}
 use Rattle.catalog.specs.declared.AnswerName.{AnswerName}
-use Rattle.unit.specs.declared.UnitState.{UnitState}
-use Rattle.unit.specs.State.{freshUnit}
+use Rattle.services.specs.declared.UnitState.{UnitState}
+use Rattle.services.specs.State.{freshUnit}
 use Rattle.unit.specs.Call.{unitState}
 use Rattle.tool.specs.declared.ToolState.{ToolState}
 use Rattle.tool.specs.State.{freshTool}

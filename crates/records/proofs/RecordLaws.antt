@@ -9,7 +9,7 @@ use lib.Dec.{ltb}
 use lib.ListN.{length}
 use borrow.Author.Tests.{lt-ltb, le-ltb, eq-eqb, ne-eqb, ltb-true}
 use Rattle.octets.specs.Order.{unless}
-use Rattle.octets.specs.Numbers.{placeBy}
+use Rattle.octets.specs.Numbers.{placeBy, refusedPlace}
 use Rattle.octets.specs.declared.Place.{Place}
 use Rattle.records.specs.Arrays.{sizeAt, countAt, lengthAt, standsAt, isRun, arraysIn, headerOf, arrayNumber, recordNumber, arrayBy, arrayAt, recordPlace}
 use Rattle.records.specs.Arrays.{inNumber, recordIn}
@@ -18,13 +18,9 @@ use Rattle.records.proofs.HeaderLaws.{stands-size, stands-within}
 use Rattle.octets.proofs.OrderLaws.{unless-is, unless-refused}
 use Rattle.records.proofs.RunLaws.{stands-behind}
 
--- no part, for this reason
-abbrev pub nothing : ℕ → Place
-nothing number = record { number = number; start = 0; len = 0 }
-
 -- In a slice of so many bytes, from the tests of the code; n is size times number as the code computed it
 module _ (bytes size count k : ℕ) where
-  pub in-zero : (r : Place) → size ≡ 0 → r ≡ nothing 10 → r ≡ recordIn bytes size count k
+  pub in-zero : (r : Place) → size ≡ 0 → r ≡ refusedPlace 10 → r ≡ recordIn bytes size count k
   unfolding recordIn inNumber
   in-zero r z q = rw (q, z)
 
@@ -32,11 +28,11 @@ module _ (bytes size count k : ℕ) where
     positive : ltb 0 size ≡ true
     positive = lt-ltb 0 size (omega arith)
 
-    pub in-other : (r : Place) → (bytes ≡ n → ⊥) → r ≡ nothing 10 → r ≡ recordIn bytes size count k
+    pub in-other : (r : Place) → (bytes ≡ n → ⊥) → r ≡ refusedPlace 10 → r ≡ recordIn bytes size count k
     unfolding recordIn inNumber
     in-other r h q = rw (q, positive, ne-eqb bytes (size * count) (λ p. h (p ∙ sym e)))
 
-    pub in-none : (r : Place) → bytes ≡ n → count ≤ k → r ≡ nothing 10 → r ≡ recordIn bytes size count k
+    pub in-none : (r : Place) → bytes ≡ n → count ≤ k → r ≡ refusedPlace 10 → r ≡ recordIn bytes size count k
     unfolding recordIn inNumber
     in-none r h l q = rw (q, positive, eq-eqb bytes (size * count) (h ∙ e), le-ltb k count l)
 
@@ -86,7 +82,7 @@ module _ (i k : ℕ) (s : List ℕ) (a : Array) (e : a ≡ arrayAt i s) where
   unfolding arrayBy
   number-is = ap (λ (x : Array). x .number) e
 
-  pub place-refused : (r : Place) → (a .number ≡ 0 → ⊥) → r ≡ nothing (a .number) → r ≡ recordPlace i k s
+  pub place-refused : (r : Place) → (a .number ≡ 0 → ⊥) → r ≡ refusedPlace (a .number) → r ≡ recordPlace i k s
   unfolding recordPlace
   place-refused r n q =
       let f : recordNumber i k s ≡ a .number = number-first i k s (λ z. n (number-is ∙ z)) ∙ sym number-is in
@@ -106,7 +102,7 @@ module _ (i k : ℕ) (s : List ℕ) (a : Array) (e : a ≡ arrayAt i s) where
     inside-number : p .number ≡ unless (ltb k (countAt (headerOf i s) s)) 10 0
     inside-number = ap (λ (x : Place). x .number) inside
 
-    pub place-none : (r : Place) → (p .number ≡ 0 → ⊥) → r ≡ nothing (p .number) → r ≡ recordPlace i k s
+    pub place-none : (r : Place) → (p .number ≡ 0 → ⊥) → r ≡ refusedPlace (p .number) → r ≡ recordPlace i k s
     unfolding recordPlace
     place-none r n f = rw (f, inside-number, number-then i s there k, unless-refused (ltb k (countAt (headerOf i s) s)) 10 (λ h. n (inside-number ∙ h)))
 

@@ -7,11 +7,12 @@ use lib.ListN.{length}
 use borrow.Author.Tests.{ne-eqb}
 use Rattle.octets.specs.Order.{orElse}
 use Rattle.octets.specs.Buffer.{partAt}
+use Rattle.octets.specs.Numbers.{refusedPlace}
 use Rattle.octets.specs.declared.Place.{Place}
 use Rattle.records.specs.Arrays.{arrayNumber, arrayBy, arrayAt, arrayRecords, recordPlace, recordOf, inNumber, recordIn}
 use Rattle.records.specs.View.{placeIn, Shown, viewed, viewNumber, viewRecord, viewRecordNumber}
 use Rattle.records.specs.declared.Array.{Array}
-use Rattle.records.proofs.RecordLaws.{nothing, in-zero, in-other, number-first}
+use Rattle.records.proofs.RecordLaws.{in-zero, in-other, number-first}
 use Rattle.records.proofs.Theorems.{slice-number, slice-record}
 
 by-zero : {P : Type 0} (n : ℕ) → (n ≡ 0 → P) → ((n ≡ 0 → ⊥) → P) → P
@@ -33,7 +34,7 @@ refused-zero i s n = rw (ne-eqb (arrayNumber i s) 0 n)
 pub ten-in-odd : (view : Shown) (k : ℕ) → ((view .size ≡ 0 → ⊥) → length (view .records) ≡ view .size * view .count → ⊥)
     → (viewRecordNumber view k ≡ 10) × (viewRecord view k ≡ [])
 ten-in-odd view k odd =
-    let none : Place = nothing 10 in
+    let none : Place = refusedPlace 10 in
     let bytes : ℕ = length (view .records) in
     let e : placeIn (view .records) (view .size) (view .count) k ≡ none =
     by-zero (view .size) (λ z. sym (in-zero bytes (view .size) (view .count) k none z refl)) (λ n. sym (in-other bytes (view .size) (view .count) k (view .size * view .count) n refl none (odd n) refl)) in

@@ -38,17 +38,6 @@ fn no_array(number: u8) -> Array
     }
 }
 
-// No part, for this reason.
-fn no_part(number: u8) -> Place
-    ensures { λ r. ⌜ r ≡ record { number = number; start = 0; len = 0 } ⌝ }
-{
-    Place {
-        number,
-        start: 0,
-        len: 0,
-    }
-}
-
 // The bytes of so many records.
 fn bytes_of(size: u16, records: u16) -> usize
     ensures { λ r. ⌜ r ≡ size * records ⌝ }
@@ -165,10 +154,10 @@ pub fn record_in(records_len: usize, size: u16, count: u16, record: usize) -> Pl
     ensures { λ r. ⌜ r ≡ recordIn «records_len» size count «record» ⌝ }
 {
     if size == 0 {
-        return no_part(NO_SUCH);
+        return octets::refused_place(NO_SUCH);
     }
     if records_len != bytes_of(size, count) {
-        return no_part(NO_SUCH);
+        return octets::refused_place(NO_SUCH);
     }
     if record < count as usize {
         return Place {
@@ -177,7 +166,7 @@ pub fn record_in(records_len: usize, size: u16, count: u16, record: usize) -> Pl
             len: size as usize,
         };
     }
-    no_part(NO_SUCH)
+    octets::refused_place(NO_SUCH)
 }
 
 // Where a record lies in the body: 9, then 10 where there is no such array or record.
@@ -186,11 +175,11 @@ pub fn record_place(body: &[u8], array: usize, record: usize) -> Place
 {
     let found = array_at(body, array);
     if found.number != 0 {
-        return no_part(found.number);
+        return octets::refused_place(found.number);
     }
     let inside = record_in(found.len, found.size, found.count, record);
     if inside.number != 0 {
-        return no_part(inside.number);
+        return octets::refused_place(inside.number);
     }
     Place {
         number: 0,

@@ -4,10 +4,10 @@ use crate::line::Queue;
 use crate::print;
 use catalog::AnswerName;
 use octets::Place;
+use services::UnitState;
 use tool::Outcome;
 use tool::Request;
 use tool::ToolState;
-use unit::UnitState;
 
 pub struct Session {
     pub unit: UnitState,
@@ -18,7 +18,7 @@ pub struct Session {
 }
 
 pub(crate) fn fresh() -> Session {
-    let unit = unit::state::fresh(2);
+    let unit = services::state::fresh(2);
     let tool = tool::state::fresh();
     let to_unit = Queue {
         base: 0,

@@ -9,7 +9,7 @@ use Rattle.frame.specs.declared.Addresses.{Addresses}
 use Rattle.frame.specs.declared.End.the-variants as ends
 use Rattle.frame.specs.Frame.{judged, dataOf}
 use Rattle.split.specs.Split.{dataMost, countOf, subMessages, subField, subFrame}
-use Rattle.split.specs.Join.{numberIn, complete, framesOf, joinedFrames}
+use Rattle.split.specs.Join.{messageIn, complete, framesOf, joinedFrames}
 
 pub record SplitClaims : Type 0 where
   -- every sub message is a good frame at the tool, and its data field reads back
@@ -31,7 +31,7 @@ pub record SplitClaims : Type 0 where
       → (0x04 ≤ length (subField trep (countOf (length d)) d))
       × (length (subField trep (countOf (length d)) d) ≤ 0xFE)
   -- "a two-byte number from 1": the number in sub message k is k
-  pub numberBack : (trep : ℕ) (d : List ℕ) (k : ℕ) → 253 ≤ length d → k < 65536 → numberIn (subField trep k d) ≡ k
+  pub numberBack : (trep : ℕ) (d : List ℕ) (k : ℕ) → 253 ≤ length d → k < 65536 → messageIn (subField trep k d) ≡ k
   -- "Joining alone is met by an identity; it is stated over the splitting rule": the frames into which that rule splits
   -- an answer, read at the tool and joined, are its data
   pub joinedBack : (a : Addresses) (trep : ℕ) (d : List ℕ) → length d ≤ dataMost

@@ -18,8 +18,8 @@ unfoldable pub isAnswer : ℕ → List ℕ → Bool
 isAnswer trep f = leb 2 (length f) && (eqb (getD f 0 0) 0x76 && eqb (getD f 1 0) trep)
 
 -- the number of a sub message stands behind 76 and TREP
-abbrev pub numberIn : List ℕ → ℕ
-numberIn f = numberAt 2 2 f
+abbrev pub messageIn : List ℕ → ℕ
+messageIn f = numberAt 2 2 f
 
 -- "With 1 expected, a frame 76 TREP with LEN below FF is the whole answer"
 abbrev pub isWhole : ℕ → ℕ → Bool
@@ -32,8 +32,8 @@ receivedAs trep e f =
     unless (isAnswer trep f) Other
     (cond (isWhole e (length f)) Whole
     (unless (leb 4 (length f)) Other
-    (cond (ltb (numberIn f) e) Other
-    (cond (ltb e (numberIn f)) Above
+    (cond (ltb (messageIn f) e) Other
+    (cond (ltb e (messageIn f)) Above
     (cond (ltb (length f) 255) Last Full)))))
 
 -- the answer's data in it
@@ -49,7 +49,8 @@ pub data Joined : Type 0 where
   complete : List ℕ → Joined
   waiting : ℕ → List ℕ → Joined
 
--- what one data field makes of it: next and same are what the fields behind it make with the next number expected, and with the same
+-- what one data field makes of it: next and same are what the fields behind it make with the next number expected, and
+-- with the same
 unfoldable pub joinedBy : Received → List ℕ → List ℕ → Joined → Joined → Joined
 joinedBy Whole held f next same = complete (held ++ carriedBy Whole f)
 joinedBy Last held f next same = complete (held ++ carriedBy Last f)

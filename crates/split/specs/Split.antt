@@ -19,20 +19,27 @@ use Rattle.frame.specs.Frame.{frameOf}
 abbrev pub dataMost : ℕ
 dataMost = 59998
 
--- "Answer data of up to 252 bytes goes in one frame .. More is split"
+-- "Answer data of up to 252 bytes goes in one frame"; "251 data bytes (LEN FF)" in a full sub message
+abbrev pub singleMost : ℕ
+singleMost = 252
+
+abbrev pub pieceSize : ℕ
+pieceSize = 251
+
+-- ".. More is split"
 abbrev pub isSplit : ℕ → Bool
-isSplit n = ltb 252 n
+isSplit n = ltb singleMost n
 
 -- "n bytes, n at least 253, need n/251 rounded down, plus 1"
 unfoldable pub countOf : ℕ → ℕ
-countOf n = cond (isSplit n) (n / 251 + 1) 1
+countOf n = cond (isSplit n) (n / pieceSize + 1) 1
 
 unfoldable pub subMessages : ℕ → Counted
 subMessages n = countedBy (unless (leb n dataMost) overBound done) (countOf n)
 
 -- the data bytes that sub message k carries: "251 data bytes (LEN FF); the last carries 0 to 250"
 unfoldable pub carries : ℕ → List ℕ → List ℕ
-carries k d = cond (isSplit (length d)) (take 251 (drop ((k - 1) * 251) d)) d
+carries k d = cond (isSplit (length d)) (take pieceSize (drop ((k - 1) * pieceSize) d)) d
 
 -- 8, then 10: "no such .. sub message"
 unfoldable pub pieceNumber : ℕ → ℕ → ℕ
@@ -41,7 +48,9 @@ pieceNumber n k = unless (leb n dataMost) overBound (unless (leb 1 k) noSuch (un
 -- their place among n data bytes
 unfoldable pub piecePlace : ℕ → ℕ → Place
 piecePlace n k =
-    placeBy (pieceNumber n k) (cond (isSplit n) ((k - 1) * 251) 0) (cond (isSplit n) (min 251 (n - (k - 1) * 251)) n)
+    placeBy (pieceNumber n k)
+    (cond (isSplit n) ((k - 1) * pieceSize) 0)
+    (cond (isSplit n) (min pieceSize (n - (k - 1) * pieceSize)) n)
 
 unfoldable pub pieceOf : ℕ → List ℕ → List ℕ
 pieceOf k d = partAt (piecePlace (length d) k .start) (piecePlace (length d) k .len) d

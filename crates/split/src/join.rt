@@ -1,6 +1,7 @@
 // Joining: what a frame's data contributes to the answer that is being received.
 use crate::Received;
 use crate::SubMessage;
+use octets::wire::ANSWER;
 ghost use mathlib.Core.Path.{_≡_};
 ghost use lib.ListN.{drop};
 ghost use Rattle.split.specs.Join.{isAnswer, isWhole, receivedAs, carriedBy};
@@ -11,7 +12,7 @@ fn is_answer(data: &[u8], trep: u8) -> bool
     if data.len() < 2 {
         return false;
     }
-    if data[0] != 0x76 {
+    if data[0] != ANSWER {
         return false;
     }
     data[1] == trep

@@ -5,15 +5,29 @@ use octets::Place;
 use octets::numbers::NO_SUCH;
 use octets::numbers::OVER_BOUND;
 ghost use mathlib.Core.Path.{_≡_};
-ghost use Rattle.split.specs.Split.{countOf, subMessages, pieceNumber, piecePlace, pieceOf};
+ghost use Rattle.split.specs.Split.{isSplit, countOf, subMessages, pieceNumber, piecePlace, pieceOf};
 
 // The most data bytes of an answer.
 pub const DATA_MOST: usize = 59998;
 
-fn count_of(len: usize) -> usize
+// The most data bytes that go in one frame unsplit.
+pub const SINGLE_MOST: usize = 252;
+
+// The data bytes of a full sub message.
+pub const PIECE: usize = 251;
+
+// Whether an answer with `len` data bytes is split.
+pub fn is_split(len: usize) -> bool
+    ensures { λ r. ⌜ r ≡ isSplit len ⌝ }
+{
+    SINGLE_MOST < len
+}
+
+// How many sub messages `len` data bytes take, whatever their bound.
+pub fn count_of(len: usize) -> usize
     ensures { λ r. ⌜ r ≡ countOf len ⌝ }
 {
-    if len <= 252 { 1 } else { len / 251 + 1 }
+    if is_split(len) { len / PIECE + 1 } else { 1 }
 }
 
 // How many sub messages an answer with `len` data bytes takes; 8 for over 59,998 bytes.
@@ -32,43 +46,39 @@ pub fn sub_messages(len: usize) -> Counted
     }
 }
 
-fn piece_number(len: usize, number: usize) -> u8
-    ensures { λ r. ⌜ r ≡ pieceNumber len number ⌝ }
+fn piece_number(len: usize, message: usize) -> u8
+    ensures { λ r. ⌜ r ≡ pieceNumber len message ⌝ }
 {
     if DATA_MOST < len {
         return OVER_BOUND;
     }
-    if number < 1 {
+    if message < 1 {
         return NO_SUCH;
     }
-    if count_of(len) < number {
+    if count_of(len) < message {
         return NO_SUCH;
     }
     0
 }
 
 // Which of `len` data bytes the sub message carries: 8, then 10 where there is no such sub message.
-pub fn locate(len: usize, number: SubMessage) -> Place
-    ensures { λ r. ⌜ r ≡ piecePlace len (number .0) ⌝ }
+pub fn locate(len: usize, message: SubMessage) -> Place
+    ensures { λ r. ⌜ r ≡ piecePlace len (message .0) ⌝ }
 {
-    let k = number.0 as usize;
+    let k = message.0 as usize;
     let refused = piece_number(len, k);
     if refused != 0 {
-        return Place {
-            number: refused,
-            start: 0,
-            len: 0,
-        };
+        return octets::refused_place(refused);
     }
-    if len <= 252 {
+    if !is_split(len) {
         return Place {
             number: 0,
             start: 0,
             len,
         };
     }
-    let start = (k - 1) * 251;
-    if len - start < 251 {
+    let start = (k - 1) * PIECE;
+    if len - start < PIECE {
         return Place {
             number: 0,
             start,
@@ -78,13 +88,13 @@ pub fn locate(len: usize, number: SubMessage) -> Place
     Place {
         number: 0,
         start,
-        len: 251,
+        len: PIECE,
     }
 }
 
 // The data bytes that the sub message carries, as that part of the data; empty where `locate` refuses it.
-pub fn piece(data: &[u8], number: SubMessage) -> &[u8]
-    ensures { λ r. ⌜ now r ≡ pieceOf (number .0) (now («data» .entry)) ⌝ }
+pub fn piece(data: &[u8], message: SubMessage) -> &[u8]
+    ensures { λ r. ⌜ now r ≡ pieceOf (message .0) (now («data» .entry)) ⌝ }
 {
-    octets::buffer::part(data, locate(data.len(), number))
+    octets::buffer::part(data, locate(data.len(), message))
 }

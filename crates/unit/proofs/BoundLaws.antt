@@ -1,12 +1,10 @@
 -- What a unit sends fits its fields: a call whose frame consists of bytes keeps the day below 2^32 and the number below 65,536, as packing needs.
-use Prim.Native.Nat.{ℕ, _+_, _-_, _<_, _≤_}
+use Prim.Native.Nat.{ℕ, _<_}
 use mathlib.Core.Bool.{Bool, true, false, cond}
 use mathlib.Core.List.{List}
 use mathlib.Core.Path.{_≡_, refl}
 use native.Mathlib.Omega.{arith}
-use native.Mathlib.Decide.{decLe}
 use lib.Dec.{eqb}
-use Rattle.octets.specs.BigEndian.{numberAt}
 use Rattle.octets.specs.Buffer.{Bytes}
 use Rattle.octets.specs.declared.Place.{Place}
 use Rattle.octets.proofs.NumberLaws.{number-fits}
@@ -15,22 +13,23 @@ use Rattle.octets.proofs.Tests.{never}
 use Rattle.frame.specs.declared.Addresses.{Addresses}
 use Rattle.frame.specs.declared.End.the-variants as ends
 use Rattle.frame.specs.Frame.{dataPlace, dataOf}
-use Rattle.catalog.specs.Table.{isActivities}
 use Rattle.catalog.specs.declared.AnswerName.{AnswerName}
-use Rattle.split.specs.Split.{isSplit, countOf}
-use Rattle.split.specs.Codes.{sub}
+use Rattle.split.specs.Split.{isSplit}
+use Rattle.split.specs.Codes.{sub, nextOf}
 use Rattle.split.specs.declared.SubMessage.{SubMessage}
-use Rattle.split.proofs.Theorems.{count-one, count-split}
-use Rattle.unit.specs.declared.Phase.{Phase}
-use Rattle.unit.specs.declared.Phase.the-variants.{Closed, Started, Session, Granted, Sending}
-use Rattle.unit.specs.declared.UnitState.{UnitState}
-use Rattle.unit.specs.declared.Reaction.{Reaction}
-use Rattle.unit.specs.declared.Reaction.the-variants.{Ignored, CommunicationStarted, SessionOpened, RateOffered, RateChanged, UploadGranted, AnswerSent, AnswerStopped, TransferExited, CommunicationStopped, Negative}
-use Rattle.unit.specs.State.{nameSent, placeSent}
-use Rattle.unit.specs.Services.{requestName, answerFrom}
-use Rattle.unit.specs.Call.{placeAsked, reactionTo, stateAfter, unitNumber, unitState}
-use Rattle.unit.proofs.StoreFacts.{found-most}
-use Rattle.unit.proofs.SentLaws.{sendsAnswer, every-reaction}
+use Rattle.services.specs.declared.Phase.{Phase}
+use Rattle.services.specs.declared.Phase.the-variants.{Closed, Started, Session, Granted, Sending}
+use Rattle.services.specs.declared.UnitState.{UnitState}
+use Rattle.services.specs.declared.Reaction.{Reaction}
+use Rattle.services.specs.declared.Reaction.the-variants.{Ignored, CommunicationStarted, SessionOpened, RateOffered, RateChanged, UploadGranted}
+use Rattle.services.specs.declared.Reaction.the-variants.{AnswerSent, AnswerStopped, TransferExited, CommunicationStopped, Negative}
+use Rattle.services.specs.State.{dataAt}
+use Rattle.services.specs.Services.{requestName, answerFrom}
+use Rattle.services.specs.After.{stateAfter}
+use Rattle.services.proofs.ReactionLaws.{sendsAnswer}
+use Rattle.unit.specs.State.{placeSent}
+use Rattle.unit.specs.Call.{placeAsked, reactionTo, unitNumber, unitState}
+use Rattle.unit.proofs.SentLaws.{every-reaction}
 
 -- the name and the number that a unit in this phase is sending fit their fields
 abbrev pub Fits : Phase → Type 0
@@ -42,13 +41,6 @@ Fits (Sending name last) = (name .day < 4294967296) × (last .0 < 65536)
 
 sending-fits : (phase : Phase) (name : AnswerName) (last : SubMessage) → phase ≡ Sending name last → Fits phase → Fits (Sending name last)
 sending-fits phase name last e f = rw e at f
-
-count-few : (n : ℕ) → n ≤ 60000 → countOf (n - 2) ≤ 240
-count-few n h =
-    elim (decLe (n - 2) 252) as (λ _. countOf (n - 2) ≤ 240) [
-      | yes l ↦ omega (arith, count-one (n - 2) l)
-      | no l ↦ omega (arith, count-split (n - 2) (omega arith))
-    ]
 
 module _ (u : UnitState) (fits : Fits (u .phase)) where
   abbrev After : Reaction → Type 0
@@ -70,7 +62,7 @@ module _ (u : UnitState) (fits : Fits (u .phase)) where
 
   sends : (name : AnswerName) (k : SubMessage) (place : Place) → name .day < 4294967296 → k .0 < 65536 → After (AnswerSent name k place)
   unfolding stateAfter
-  sends name k place d l = go (isSplit (place .len - 2))
+  sends name k place d l = go (isSplit (dataAt place))
     where
       go : (t : Bool) → Fits (cond t (Sending name k) Granted)
       go true = (d, l)
@@ -79,11 +71,7 @@ module _ (u : UnitState) (fits : Fits (u .phase)) where
   module _ (s : List ℕ) (a : Addresses) (b : List ℕ) (bytes : Bytes b) where
     asked-day : (d : List ℕ) → Bytes d → requestName d .day < 4294967296
     unfolding requestName
-    asked-day d h = go (isActivities (requestName d .trep))
-      where
-        go : (t : Bool) → cond t (numberAt 4 2 d) 0 < 4294967296
-        go true = number-fits 4 2 d h
-        go false = omega arith
+    asked-day d h = number-fits 4 2 d h
 
     heard-bytes : Bytes (dataOf a ends.Unit b)
     unfolding dataOf
@@ -102,9 +90,7 @@ module _ (u : UnitState) (fits : Fits (u .phase)) where
     reaction-fits =
         every-reaction After plain a (placeSent s (u .phase)) (placeAsked s (dataOf a ends.Unit b)) u b (first (placeAsked s (dataOf a ends.Unit b)))
         (λ name last e. let f = sending-fits (u .phase) name last e fits in sends name last (placeSent s (u .phase)) (f .0) (f .1))
-        (λ name last e l.
-        let f = sending-fits (u .phase) name last e fits in
-        sends name (sub (last .0 + 1)) (placeSent s (u .phase)) (f .0) (omega (arith, count-few (placeSent s (u .phase) .len) (found-most s (nameSent (u .phase))))))
+        (λ name last e l. let f = sending-fits (u .phase) name last e fits in sends name (nextOf last) (placeSent s (u .phase)) (f .0) (omega arith))
 
     pub step-fits : (room : ℕ) → Fits (unitState a s room u b .phase)
     unfolding unitState

@@ -1,12 +1,12 @@
--- The call: which service is asked for, and what it hands back, from the tests of the code.
-use Prim.Native.Nat.{ℕ, _-_, _<_, _≤_}
+-- The call: what a frame asks for, and what the call hands back, from the tests of the code.
+use Prim.Native.Nat.{ℕ, _≤_}
 use mathlib.Core.Bool.{Bool, true, false, cond}
 use mathlib.Core.List.{List, [], _∷_}
 use mathlib.Core.Path.{_≡_, refl, sym, ap, _∙_}
 use native.Mathlib.Omega.{arith}
 use lib.Dec.{eqb, leb}
 use lib.ListN.{length, getD}
-use borrow.Author.Tests.{lt-ltb, le-ltb, eq-eqb, ne-eqb, leb-true, eqb-true}
+use borrow.Author.Tests.{ne-eqb, leb-true, eqb-true}
 use Rattle.octets.specs.Order.{unless, orElse}
 use Rattle.octets.specs.Numbers.{changedBy}
 use Rattle.octets.specs.Buffer.{partAt, sameBytes, front}
@@ -17,30 +17,27 @@ use Rattle.frame.specs.declared.End.the-variants as ends
 use Rattle.frame.specs.Frame.{lab, isStart, startRight, addressed, judged, dataPlace, dataOf}
 use Rattle.frame.proofs.CheckLaws.{good, good-sum, count-start}
 use Rattle.catalog.specs.declared.AnswerName.{AnswerName}
-use Rattle.split.specs.Split.{isSplit}
-use Rattle.split.specs.declared.SubMessage.{SubMessage}
 use Rattle.store.specs.Layout.{narrow}
 use Rattle.store.specs.Read.{lookupPlace, lookupBoth}
 use Rattle.store.specs.declared.TwoPlaces.{TwoPlaces}
-use Rattle.unit.specs.declared.Phase.{Phase}
-use Rattle.unit.specs.declared.Phase.the-variants.{Granted, Sending}
-use Rattle.unit.specs.declared.UnitState.{UnitState}
+use Rattle.services.specs.declared.Phase.{Phase}
+use Rattle.services.specs.declared.UnitState.{UnitState}
+use Rattle.services.specs.declared.Reaction.{Reaction}
+use Rattle.services.specs.declared.Reaction.the-variants.{Ignored, CommunicationStarted}
+use Rattle.services.specs.State.{isClosed, nameSent, possibleAt}
+use Rattle.services.specs.Services.{nameAsked, onData}
+use Rattle.services.specs.After.{stateAfter}
 use Rattle.unit.specs.declared.UnitReply.{UnitReply}
-use Rattle.unit.specs.declared.Reaction.{Reaction}
-use Rattle.unit.specs.declared.Reaction.the-variants.{Ignored, CommunicationStarted, AnswerSent}
-use Rattle.unit.specs.State.{isClosed, nameSent, possibleAt, possible}
-use Rattle.unit.specs.Call.{nameAsked, onData, reactionAt, reactionTo, withPhase, stateAfter, replyData, replyTo, numberBefore, unitNumber, unitState, unitReply, unitResult, unitOut}
-use Rattle.unit.specs.Sent.{pieceSent}
-use Rattle.unit.proofs.StateLaws.{place-most, possible-sent}
+use Rattle.unit.specs.State.{possible}
+use Rattle.unit.specs.Call.{reactionAt, reactionTo, replyData, replyTo, numberBefore, unitNumber, unitState, unitReply, unitResult, unitOut}
+use Rattle.unit.specs.Piece.{pieceSent}
 use Rattle.unit.proofs.SentLaws.{sends-what-is}
 
--- the SID, as the code read it
-module _ (d : List ℕ) (sid t : ℕ) (read : sid ≡ getD d 0 0) where
-  pub sid-is : sid ≡ t → eqb (getD d 0 0) t ≡ true
-  sid-is e = eq-eqb _ t (sym read ∙ e)
-
-  pub sid-not : (sid ≡ t → ⊥) → eqb (getD d 0 0) t ≡ false
-  sid-not n = ne-eqb _ t (λ e. n (read ∙ e))
+-- the place of the answer that is being sent decides what is possible
+pub possible-sent : (s : List ℕ) (name : AnswerName) (place : Place) (u : UnitState) (r : Bool) → place ≡ lookupPlace narrow name s → name ≡ nameSent (u .phase)
+    → r ≡ possibleAt place u → r ≡ possible s u
+unfolding possible
+possible-sent s name place u r found e q = rw (← e, ← found) q
 
 -- A good frame with first byte 81 is the start frame
 
@@ -100,21 +97,6 @@ module _ (sent asked : Place) (u : UnitState) (b : List ℕ) (r : Bool) (fair : 
     unfolding reactionAt
     reaction-data d x h e q = rw (← is-start, general, ← closed, h, ← e) q
 
--- the phase behind an answer
-pub after-whole : (name : AnswerName) (k : SubMessage) (place : Place) → place .len ≤ 254 → Granted ≡ cond (isSplit (place .len - 2)) (Sending name k) Granted
-after-whole name k place h = rw (le-ltb 252 (place .len - 2) (omega arith))
-
-pub after-split : (name : AnswerName) (k : SubMessage) (place : Place) → 254 < place .len → Sending name k ≡ cond (isSplit (place .len - 2)) (Sending name k) Granted
-after-split name k place h = rw (lt-ltb 252 (place .len - 2) (omega arith))
-
--- The state behind a reaction x, which is y
-pub state-is : (u v : UnitState) (x y : Reaction) → x ≡ y → v ≡ stateAfter u y → v ≡ stateAfter u x
-state-is u v x y e q = rw e q
-
-pub state-sent : (u v : UnitState) (x : Reaction) (name : AnswerName) (k : SubMessage) (place : Place) (p : Phase) → x ≡ AnswerSent name k place → p ≡ cond (isSplit (place .len - 2)) (Sending name k) Granted → v ≡ withPhase u p → v ≡ stateAfter u x
-unfolding stateAfter
-state-sent u v x name k place p e f q = rw (e, ← f) q
-
 -- A reaction that a number may hold back to silence: the state stays, and nothing is replied
 
 module _ (s : List ℕ) (u : UnitState) (x : Reaction) where
@@ -133,17 +115,18 @@ module _ (s : List ℕ) (u : UnitState) (x : Reaction) where
   held-piece true e = e
   held-piece false e = refl
 
--- The frame of a call: heard is where its data d lies
-module _ (b : List ℕ) (heard : Place) (located : heard ≡ dataPlace lab ends.Unit b) where
-  pub heard-number : heard .number ≡ judged lab ends.Unit b
+-- The frame of a call: place is where its data d lies
+module _ (b : List ℕ) (place : Place) (located : place ≡ dataPlace lab ends.Unit b) where
+  pub place-number : place .number ≡ judged lab ends.Unit b
   unfolding dataPlace
-  heard-number = ap (λ (p : Place). p .number) located
+  place-number = ap (λ (p : Place). p .number) located
 
-  pub heard-data : (d : List ℕ) → d ≡ partAt (heard .start) (heard .len) b → d ≡ dataOf lab ends.Unit b
+  pub place-data : (d : List ℕ) → d ≡ partAt (place .start) (place .len) b → d ≡ dataOf lab ends.Unit b
   unfolding dataOf
-  heard-data d e = e ∙ ap (λ (p : Place). partAt (p .start) (p .len) b) located
+  place-data d e = e ∙ ap (λ (p : Place). partAt (p .start) (p .len) b) located
 
-pub found-by : (s : List ℕ) (found : TwoPlaces) (sent asked : AnswerName) (phase : Phase) (d : List ℕ) → found ≡ lookupBoth narrow sent asked s → sent ≡ nameSent phase → asked ≡ nameAsked d
+pub found-by : (s : List ℕ) (found : TwoPlaces) (sent asked : AnswerName) (phase : Phase) (d : List ℕ) → found ≡ lookupBoth narrow sent asked s
+    → sent ≡ nameSent phase → asked ≡ nameAsked d
     → found ≡ lookupBoth narrow (nameSent phase) (nameAsked d) s
 found-by s found sent asked phase d e p q = e ∙ rw (p, q)
 
@@ -152,11 +135,8 @@ module _ (s : List ℕ) (u : UnitState) (b d : List ℕ) (found : TwoPlaces) (gi
   first-found : found .first ≡ lookupPlace narrow (nameSent (u .phase)) s
   first-found = ap (λ (p : TwoPlaces). p .first) given
 
-  pub first-most : found .first .len ≤ 60000
-  first-most = place-most s (nameSent (u .phase)) (found .first) first-found
-
   is-possible : possibleAt (found .first) u ≡ possible s u
-  is-possible = possible-sent s (nameSent (u .phase)) (found .first) first-found u (possibleAt (found .first) u) refl refl
+  is-possible = possible-sent s (nameSent (u .phase)) (found .first) u (possibleAt (found .first) u) first-found refl refl
 
   -- n is the number before the frame's
   module _ (n room : ℕ) (number : n ≡ numberBefore (found .number) (possibleAt (found .first) u) room) where
@@ -183,7 +163,8 @@ module _ (s : List ℕ) (u : UnitState) (b d : List ℕ) (found : TwoPlaces) (gi
       accepted-room = leb-true _ _ (unless-is (leb 260 room) 4 0 0 refl (accepted-possible .rest) .first)
 
       -- the reaction x; k is the number of the frame
-      module _ (k : ℕ) (x : Reaction) (reacts : x ≡ changedBy k (reactionAt lab (found .first) (found .second) u b) Ignored) (data-is : d ≡ dataOf lab ends.Unit b) where
+      module _ (k : ℕ) (x : Reaction) (reacts : x ≡ changedBy k (reactionAt lab (found .first) (found .second) u b) Ignored)
+          (data-is : d ≡ dataOf lab ends.Unit b) where
         reaction-is : x ≡ changedBy k (reactionTo lab s u b) Ignored
         unfolding reactionTo
         reaction-is = rw (reacts, given, data-is)
@@ -192,7 +173,7 @@ module _ (s : List ℕ) (u : UnitState) (b d : List ℕ) (found : TwoPlaces) (gi
         accepted-piece =
             rw reaction-is
             (held-piece s u (reactionTo lab s u b) (eqb k 0)
-            (sends-what-is s (ap (λ (p : TwoPlaces). p .number) (sym given) ∙ accepted .first) lab u b (sym is-possible ∙ accepted-possible .first)))
+            (sends-what-is s lab u b (sym is-possible ∙ accepted-possible .first)))
 
         module _ (judging : k ≡ judged lab ends.Unit b) where
           accepted-number : unitNumber lab s room u b ≡ k
@@ -202,7 +183,8 @@ module _ (s : List ℕ) (u : UnitState) (b d : List ℕ) (found : TwoPlaces) (gi
           unfolding unitReply
           replied = rw (reaction-is, accepted-number, held-reply s u (reactionTo lab s u b) (eqb k 0))
 
-          pub result-done : (v : UnitState) (l : ℕ) → v ≡ stateAfter u x → l ≡ length (replyTo lab (replyData s x)) → _≡_ {A = UnitReply} (record { number = k; state = v; len = l }) (unitResult lab s room u b)
+          pub result-done : (v : UnitState) (l : ℕ) → v ≡ stateAfter u x → l ≡ length (replyTo lab (replyData s x))
+              → _≡_ {A = UnitReply} (record { number = k; state = v; len = l }) (unitResult lab s room u b)
           unfolding unitResult unitState
           result-done v l e f =
               rw (f, replied, e, reaction-is, accepted-number, held-state s u (reactionTo lab s u b) (eqb k 0))
@@ -213,7 +195,8 @@ module _ (s : List ℕ) (u : UnitState) (b d : List ℕ) (found : TwoPlaces) (gi
     unfolding unitOut unitReply front
     out-refused z = rw (refused-number n (length o) number z, ne-eqb n 0 z)
 
-    pub out-done : (k : ℕ) (x : Reaction) (o′ : List ℕ) → n ≡ 0 → x ≡ changedBy k (reactionAt lab (found .first) (found .second) u b) Ignored → d ≡ dataOf lab ends.Unit b → k ≡ judged lab ends.Unit b
+    pub out-done : (k : ℕ) (x : Reaction) (o′ : List ℕ) → n ≡ 0 → x ≡ changedBy k (reactionAt lab (found .first) (found .second) u b) Ignored
+        → d ≡ dataOf lab ends.Unit b → k ≡ judged lab ends.Unit b
         → o′ ≡ front (replyTo lab (replyData s x)) o → o′ ≡ unitOut lab s u b o
     unfolding unitOut
     out-done k x o′ zero reacts data-is judging e = e ∙ ap (λ (r : List ℕ). front r o) (replied n (length o) number zero k x reacts data-is judging)

@@ -1,7 +1,5 @@
--- Laws of the unit.
+-- Laws of the unit's call.
 pub mod StoreFacts
-pub mod StateLaws
-pub mod ServiceLaws
 pub mod SentLaws
 pub mod ReplyLaws
 pub mod CallLaws

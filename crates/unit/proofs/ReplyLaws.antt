@@ -20,11 +20,12 @@ use Rattle.split.specs.Join.{carriedBy}
 use Rattle.split.specs.declared.Received.the-variants.{Whole}
 use Rattle.split.specs.declared.SubMessage.{SubMessage}
 use Rattle.split.proofs.SplitLaws.{field-some, length-field}
-use Rattle.unit.specs.declared.UnitState.{UnitState}
-use Rattle.unit.specs.declared.Reaction.{Reaction}
-use Rattle.unit.specs.declared.Reaction.the-variants.{Ignored, CommunicationStarted, SessionOpened, RateOffered, RateChanged, UploadGranted, AnswerSent, AnswerStopped, TransferExited, CommunicationStopped, Negative}
-use Rattle.unit.specs.Call.{reactionTo, replyData, replyTo, unitNumber, unitReply}
-use Rattle.unit.specs.Sent.{pieceSent}
+use Rattle.services.specs.declared.UnitState.{UnitState}
+use Rattle.services.specs.declared.Reaction.{Reaction}
+use Rattle.services.specs.declared.Reaction.the-variants.{Ignored, CommunicationStarted, SessionOpened, RateOffered, RateChanged, UploadGranted}
+use Rattle.services.specs.declared.Reaction.the-variants.{AnswerSent, AnswerStopped, TransferExited, CommunicationStopped, Negative}
+use Rattle.unit.specs.Call.{reactionTo, dataIn, replyData, replyTo, unitNumber, unitReply}
+use Rattle.unit.specs.Piece.{pieceSent}
 
 -- some data goes out as a frame
 pub reply-is : (a : Addresses) (d : List ℕ) → 0 < length d → replyTo a d ≡ frameOf a ends.Tool d
@@ -65,15 +66,16 @@ module _ (trep k : ℕ) (d o : List ℕ) (such : pieceNumber (length d) k ≡ 0)
   sub-out o′ e = rw (e, sub-fits, reply-is lab (subField trep k d) sub-some)
 
 -- the same with the data d taken from the answer that lies in the store
-module _ (trep k : ℕ) (place : Place) (s answer d o : List ℕ) (part : answer ≡ partAt (place .start) (place .len) s) (behind : d ≡ carriedBy Whole answer) (such : pieceNumber (length (drop 2 (partAt (place .start) (place .len) s))) k ≡ 0) (room : 260 ≤ length o) where
-  is-data : d ≡ drop 2 (partAt (place .start) (place .len) s)
+module _ (trep k : ℕ) (place : Place) (s answer d o : List ℕ) (part : answer ≡ partAt (place .start) (place .len) s)
+    (behind : d ≡ carriedBy Whole answer) (such : pieceNumber (length (dataIn s place)) k ≡ 0) (room : 260 ≤ length o) where
+  is-data : d ≡ dataIn s place
   unfolding carriedBy
   is-data = behind ∙ ap (drop 2) part
 
-  pub answer-length : (w : Written) → w ≡ subResult trep k d (length o) → w .len ≡ length (replyTo lab (subField trep k (drop 2 (partAt (place .start) (place .len) s))))
+  pub answer-length : (w : Written) → w ≡ subResult trep k d (length o) → w .len ≡ length (replyTo lab (subField trep k (dataIn s place)))
   answer-length w e = sub-length trep k _ o such room w (rw is-data at e)
 
-  pub answer-out : (o′ : List ℕ) → o′ ≡ subOut lab trep k d o → o′ ≡ front (replyTo lab (subField trep k (drop 2 (partAt (place .start) (place .len) s)))) o
+  pub answer-out : (o′ : List ℕ) → o′ ≡ subOut lab trep k d o → o′ ≡ front (replyTo lab (subField trep k (dataIn s place))) o
   answer-out o′ e = sub-out trep k _ o such room o′ (rw is-data at e)
 
 -- The reply to a reaction x, which is y
@@ -84,7 +86,8 @@ module _ (s : List ℕ) (x y : Reaction) (is : x ≡ y) where
   pub reply-out : (o o′ : List ℕ) → o′ ≡ front (replyTo lab (replyData s y)) o → o′ ≡ front (replyTo lab (replyData s x)) o
   reply-out o o′ q = rw is q
 
-pub piece-there : (s : List ℕ) (x : Reaction) (name : AnswerName) (k : SubMessage) (place : Place) → x ≡ AnswerSent name k place → pieceSent s x ≡ 0 → pieceNumber (length (drop 2 (partAt (place .start) (place .len) s))) (k .0) ≡ 0
+pub piece-there : (s : List ℕ) (x : Reaction) (name : AnswerName) (k : SubMessage) (place : Place) → x ≡ AnswerSent name k place → pieceSent s x ≡ 0
+    → pieceNumber (length (dataIn s place)) (k .0) ≡ 0
 unfolding pieceSent
 piece-there s x name k place e z = rw e at z
 
@@ -98,7 +101,7 @@ data-most s SessionOpened = omega arith
 data-most s (RateOffered r) = omega arith
 data-most s RateChanged = omega arith
 data-most s UploadGranted = omega arith
-data-most s (AnswerSent name k place) = length-field (name .trep) (k .0) (drop 2 (partAt (place .start) (place .len) s))
+data-most s (AnswerSent name k place) = length-field (name .trep) (k .0) (dataIn s place)
 data-most s AnswerStopped = omega arith
 data-most s TransferExited = omega arith
 data-most s CommunicationStopped = omega arith

@@ -1,5 +1,4 @@
--- Document 01, The unit.
+-- Document 01, The unit: its call.
 pub mod State
-pub mod Services
 pub mod Call
-pub mod Sent
+pub mod Piece

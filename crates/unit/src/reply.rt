@@ -1,6 +1,4 @@
 // Writing replies: fixed ones, refusals by wire code, and sub messages straight from the store.
-use crate::Reaction;
-use crate::wire::NEGATIVE;
 use frame::End;
 use frame::messages::EXITED;
 use frame::messages::RATE_OFFERED;
@@ -9,16 +7,18 @@ use frame::messages::STARTED;
 use frame::messages::STOPPED;
 use frame::messages::UPLOAD_GRANTED;
 use octets::Place;
+use octets::wire::NEGATIVE;
+use services::Reaction;
 use split::Received;
 use split::SubMessage;
 ghost use mathlib.Core.Path.{_≡_};
 ghost use Prim.Native.Nat.{_≤_, _<_};
-ghost use lib.ListN.{length, drop};
-ghost use Rattle.octets.specs.Buffer.{partAt, front};
+ghost use lib.ListN.{length};
+ghost use Rattle.octets.specs.Buffer.{front};
 ghost use Rattle.frame.specs.Frame.{lab};
 ghost use Rattle.split.specs.Split.{pieceNumber, subField};
-ghost use Rattle.unit.specs.Call.{replyData, replyTo};
-ghost use Rattle.unit.specs.Sent.{pieceSent};
+ghost use Rattle.unit.specs.Call.{dataIn, replyData, replyTo};
+ghost use Rattle.unit.specs.Piece.{pieceSent};
 
 fn send(data: &[u8], reply: &mut [u8]) -> usize
     requires { ⌜ 0 < length (now «data») ⌝ }
@@ -30,16 +30,20 @@ fn send(data: &[u8], reply: &mut [u8]) -> usize
     frame::write::write(data, End::Tool, reply).len
 }
 
-// A sub message of the answer at this place. Its data lies behind 76 and TREP, as in a frame that carries the whole answer.
-fn send_answer(store: &[u8], trep: u8, number: SubMessage, place: Place, reply: &mut [u8]) -> usize
-    requires { ⌜ pieceNumber (length (drop 2 (partAt (place .start) (place .len) (now store)))) (number .0) ≡ 0 ⌝ }
+// A sub message of the answer at this place. Its data lies behind 76 and TREP, as in a frame that carries the whole
+// answer.
+fn send_answer(store: &[u8], trep: u8, message: SubMessage, place: Place, reply: &mut [u8]) -> usize
+    requires { ⌜ pieceNumber (length (dataIn (now store) place)) (message .0) ≡ 0 ⌝ }
     requires { ⌜ 260 ≤ length (now reply) ⌝ }
-    ensures { λ r. ⌜ r ≡ length (replyTo lab (subField trep (number .0) (drop 2 (partAt (place .start) (place .len) (now (store .entry)))))) ⌝ }
-    ensures { λ _. ⌜ now (reply .exit) ≡ front (replyTo lab (subField trep (number .0) (drop 2 (partAt (place .start) (place .len) (now (store .entry)))))) (now (reply .entry)) ⌝ }
+    ensures { λ r. ⌜ r ≡ length (replyTo lab (subField trep (message .0) (dataIn (now (store .entry)) place))) ⌝ }
+    ensures { λ _. ⌜
+        now (reply .exit)
+        ≡ front (replyTo lab (subField trep (message .0) (dataIn (now (store .entry)) place))) (now (reply .entry))
+        ⌝ }
 {
     let answer = octets::buffer::part(store, place);
     let data = split::join::carried(answer, Received::Whole);
-    split::write::write_sub_message(data, trep, number, reply).len
+    split::write::write_sub_message(data, trep, message, reply).len
 }
 
 // The reply to a good frame at the front of `reply`, and its length: 0 for silence.
@@ -47,7 +51,10 @@ pub(crate) fn write_reply(reaction: Reaction, store: &[u8], reply: &mut [u8]) ->
     requires { ⌜ pieceSent (now store) reaction ≡ 0 ⌝ }
     requires { ⌜ 260 ≤ length (now reply) ⌝ }
     ensures { λ r. ⌜ r ≡ length (replyTo lab (replyData (now (store .entry)) reaction)) ⌝ }
-    ensures { λ _. ⌜ now (reply .exit) ≡ front (replyTo lab (replyData (now (store .entry)) reaction)) (now (reply .entry)) ⌝ }
+    ensures { λ _. ⌜
+        now (reply .exit)
+        ≡ front (replyTo lab (replyData (now (store .entry)) reaction)) (now (reply .entry))
+        ⌝ }
 {
     match reaction {
         Reaction::Ignored => 0,
@@ -56,8 +63,8 @@ pub(crate) fn write_reply(reaction: Reaction, store: &[u8], reply: &mut [u8]) ->
         Reaction::RateOffered(_) => send(&RATE_OFFERED, reply),
         Reaction::RateChanged => 0,
         Reaction::UploadGranted => send(&UPLOAD_GRANTED, reply),
-        Reaction::AnswerSent(name, number, place) => {
-            send_answer(store, name.trep, number, place, reply)
+        Reaction::AnswerSent(name, message, place) => {
+            send_answer(store, name.trep, message, place, reply)
         }
         Reaction::AnswerStopped => 0,
         Reaction::TransferExited => send(&EXITED, reply),

@@ -7,4 +7,16 @@ use Rattle.frame.proofs.check.addressed_to.Tie as tie
 
 pub addressed-to-spec : {M : Type 1} → statement M
 unfolding addressed
-addressed-to-spec = tie.close (tie.spec (λ c. search needs) (λ c κs. search needs) (λ c. search (picks, eq-given, ne-given) depth 9) (λ c. search needs) (λ c κs. search needs) (λ c. search (picks, eq-given, ne-given) depth 9) (λ c. search needs) (λ c. search (picks, eq-given, ne-given) depth 9) (λ c κs. search needs) (λ c. search (picks, eq-given, ne-given) depth 9))
+addressed-to-spec =
+    tie.close
+    (tie.spec
+    (λ c. search needs)
+    (λ c κs. search needs)
+    (λ c. search (picks, eq-given, ne-given) depth 9)
+    (λ c. search needs)
+    (λ c κs. search needs)
+    (λ c. search (picks, eq-given, ne-given) depth 9)
+    (λ c. search needs)
+    (λ c. search (picks, eq-given, ne-given) depth 9)
+    (λ c κs. search needs)
+    (λ c. search (picks, eq-given, ne-given) depth 9))

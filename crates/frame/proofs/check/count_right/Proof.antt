@@ -1,10 +1,19 @@
 -- The form decides which count is right.
-use Rattle.octets.proofs.Tests.{picks}
-use Rattle.frame.specs.Frame.{countRight}
+use Rattle.frame.proofs.CheckLaws.{count-without, count-zero, count-by-len}
 use borrow.Author.Needs.{needs}
 use Rattle.frame.proofs.check.count_right.Statement.{statement}
 use Rattle.frame.proofs.check.count_right.Tie as tie
 
+ruleset all = (needs, count-without, count-zero, count-by-len)
+
 pub count-right-spec : {M : Type 1} → statement M
-unfolding countRight
-count-right-spec = tie.close (tie.spec (λ c. search needs) (λ c. search needs) (λ c κs. search needs) (λ c. search needs) (λ c. search picks depth 9) (λ c. search picks depth 9) (λ c. search picks depth 9))
+count-right-spec =
+    tie.close
+    (tie.spec
+    (λ c. search all)
+    (λ c. search all)
+    (λ c. search all)
+    (λ c. search all)
+    (λ c κs. search all)
+    (λ c. search all)
+    (λ c. search all))

@@ -8,4 +8,17 @@ use Rattle.frame.proofs.check.judge.Tie as tie
 
 pub judge-spec : {M : Type 1} → statement M
 unfolding judged
-judge-spec = tie.close (tie.spec (λ c. search (cond-t, cond-f, le-leb, lt-leb, flag-nt, flag-nf) depth 9) (λ c. search needs) (λ c κs. search needs) (λ c. search (cond-t, cond-f, le-leb, lt-leb, flag-nt, flag-nf) depth 9) (λ c κs. search needs) (λ c. search (cond-t, cond-f, le-leb, lt-leb, flag-nt, flag-nf) depth 9) (λ c κs. search needs) (λ c. search (cond-t, cond-f, le-leb, lt-leb, flag-nt, flag-nf) depth 9) (λ c κs. search needs) (λ c. search (cond-t, cond-f, le-leb, lt-leb, flag-nt, flag-nf) depth 9) (λ c. search (cond-t, cond-f, le-leb, lt-leb, flag-nt, flag-nf) depth 9))
+judge-spec =
+    tie.close
+    (tie.spec
+    (λ c. search (cond-t, cond-f, le-leb, lt-leb, flag-nt, flag-nf) depth 9)
+    (λ c. search needs)
+    (λ c κs. search needs)
+    (λ c. search (cond-t, cond-f, le-leb, lt-leb, flag-nt, flag-nf) depth 9)
+    (λ c κs. search needs)
+    (λ c. search (cond-t, cond-f, le-leb, lt-leb, flag-nt, flag-nf) depth 9)
+    (λ c κs. search needs)
+    (λ c. search (cond-t, cond-f, le-leb, lt-leb, flag-nt, flag-nf) depth 9)
+    (λ c κs. search needs)
+    (λ c. search (cond-t, cond-f, le-leb, lt-leb, flag-nt, flag-nf) depth 9)
+    (λ c. search (cond-t, cond-f, le-leb, lt-leb, flag-nt, flag-nf) depth 9))

@@ -9,4 +9,12 @@ use Rattle.frame.proofs.write.write_header.Tie as tie
 ruleset all = (needs, header-is)
 
 pub write-header-spec : {M : Type 1} → statement M
-write-header-spec = tie.close (tie.spec (λ c. search all) (λ c. simp length-set (omega arith)) (λ c. simp length-set (omega arith)) (λ c. simp length-set (omega arith)) (λ c. search all) (λ c. search all))
+write-header-spec =
+    tie.close
+    (tie.spec
+    (λ c. search all)
+    (λ c. simp length-set (omega arith))
+    (λ c. simp length-set (omega arith))
+    (λ c. simp length-set (omega arith))
+    (λ c. search all)
+    (λ c. search all))

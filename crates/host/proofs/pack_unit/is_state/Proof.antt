@@ -7,4 +7,17 @@ use Rattle.host.proofs.pack_unit.is_state.Tie as tie
 ruleset all = (needs, unit-length, unit-sending, unit-phase, unit-trep, unit-day, unit-last)
 
 pub is-state-spec : {M : Type 1} → statement M
-is-state-spec = tie.close (tie.spec (λ c. search all) (λ c. search all) (λ c. search all) (λ c. search all) (λ c. search all) (λ c. search all) (λ c. search all) (λ c κs. search all) (λ c. search all) (λ c κs. search all) (λ c. search all))
+is-state-spec =
+    tie.close
+    (tie.spec
+    (λ c. search all)
+    (λ c. search all)
+    (λ c. search all)
+    (λ c. search all)
+    (λ c. search all)
+    (λ c. search all)
+    (λ c. search all)
+    (λ c κs. search all)
+    (λ c. search all)
+    (λ c κs. search all)
+    (λ c. search all))

@@ -4,4 +4,16 @@ use Rattle.host.proofs.pack_unit.name_sent.Statement.{statement}
 use Rattle.host.proofs.pack_unit.name_sent.Tie as tie
 
 pub name-sent-spec : {M : Type 1} → statement M
-name-sent-spec = tie.close (tie.spec (λ c. search needs) (λ c. search needs) (λ c. search needs) (λ c. search needs) (λ c. search needs) (λ c. cc) (λ c. cc) (λ c. cc) (λ c. cc) (λ c. search needs))
+name-sent-spec =
+    tie.close
+    (tie.spec
+    (λ c. search needs)
+    (λ c. search needs)
+    (λ c. search needs)
+    (λ c. search needs)
+    (λ c. search needs)
+    (λ c. cc)
+    (λ c. cc)
+    (λ c. cc)
+    (λ c. cc)
+    (λ c. search needs))

@@ -7,4 +7,11 @@ use Rattle.host.proofs.pack_unit.phase_from.Tie as tie
 
 pub phase-from-spec : {M : Type 1} → statement M
 unfolding phaseFrom
-phase-from-spec = tie.close (tie.spec (λ c. search (cond-t, cond-f, eq-eqb, ne-eqb) depth 9) (λ c. search (cond-t, cond-f, eq-eqb, ne-eqb) depth 9) (λ c. search (cond-t, cond-f, eq-eqb, ne-eqb) depth 9) (λ c. search (cond-t, cond-f, eq-eqb, ne-eqb) depth 9) (λ c. search (cond-t, cond-f, eq-eqb, ne-eqb) depth 9))
+phase-from-spec =
+    tie.close
+    (tie.spec
+    (λ c. search (cond-t, cond-f, eq-eqb, ne-eqb) depth 9)
+    (λ c. search (cond-t, cond-f, eq-eqb, ne-eqb) depth 9)
+    (λ c. search (cond-t, cond-f, eq-eqb, ne-eqb) depth 9)
+    (λ c. search (cond-t, cond-f, eq-eqb, ne-eqb) depth 9)
+    (λ c. search (cond-t, cond-f, eq-eqb, ne-eqb) depth 9))

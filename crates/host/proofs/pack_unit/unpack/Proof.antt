@@ -8,4 +8,20 @@ use Rattle.host.proofs.pack_unit.unpack.Tie as tie
 ruleset all = (needs, flag-nt, flag-nf, unit-none, unit-some)
 
 pub unpack-spec : {M : Type 1} → statement M
-unpack-spec = tie.close (tie.spec (λ c κs. search all) (λ c κs. search all) (λ c. search all) (λ c κs. search all) (λ c κs. search all) (λ c κs. search all) (λ c κs. search all) (λ c κs. search all) (λ c κs. search all) (λ c κs. search all) (λ c κs. search all) (λ c κs. search all) (λ c κs. search all) (λ c. search all))
+unpack-spec =
+    tie.close
+    (tie.spec
+    (λ c κs. search all)
+    (λ c κs. search all)
+    (λ c. search all)
+    (λ c κs. search all)
+    (λ c κs. search all)
+    (λ c κs. search all)
+    (λ c κs. search all)
+    (λ c κs. search all)
+    (λ c κs. search all)
+    (λ c κs. search all)
+    (λ c κs. search all)
+    (λ c κs. search all)
+    (λ c κs. search all)
+    (λ c. search all))

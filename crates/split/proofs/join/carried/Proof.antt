@@ -7,4 +7,21 @@ use Rattle.split.proofs.join.carried.Tie as tie
 ruleset all = (needs, carried-whole, carried-full, carried-last, carried-above, carried-other)
 
 pub carried-spec : {M : Type 1} → statement M
-carried-spec = tie.close (tie.spec (λ c. search all) (λ c κs. search all) (λ c. search all) (λ c κs. search all) (λ c. search all) (λ c κs. search all) (λ c. search all) (λ c κs. search all) (λ c. search all) (λ c κs. search all) (λ c. search all) (λ c. search all) (λ c. search all) (λ c. search all) (λ c. search all))
+carried-spec =
+    tie.close
+    (tie.spec
+    (λ c. search all)
+    (λ c κs. search all)
+    (λ c. search all)
+    (λ c κs. search all)
+    (λ c. search all)
+    (λ c κs. search all)
+    (λ c. search all)
+    (λ c κs. search all)
+    (λ c. search all)
+    (λ c κs. search all)
+    (λ c. search all)
+    (λ c. search all)
+    (λ c. search all)
+    (λ c. search all)
+    (λ c. search all))

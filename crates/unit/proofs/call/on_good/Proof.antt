@@ -7,4 +7,13 @@ use Rattle.unit.proofs.call.on_good.Tie as tie
 ruleset all = (needs, reaction-start, reaction-ignored, reaction-data)
 
 pub on-good-spec : {M : Type 1} → statement M
-on-good-spec = tie.close (tie.spec (λ c. search all) (λ c κs. search all) (λ c. search all) (λ c κs. search all) (λ c. search all) (λ c κs. search all) (λ c. search all))
+on-good-spec =
+    tie.close
+    (tie.spec
+    (λ c. search all)
+    (λ c κs. search all)
+    (λ c. search all)
+    (λ c κs. search all)
+    (λ c. search all)
+    (λ c κs. search all)
+    (λ c. search all))

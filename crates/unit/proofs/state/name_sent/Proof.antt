@@ -1,8 +1,0 @@
--- Only a unit that is sending names an answer.
-use Rattle.unit.proofs.StateLaws.{name-is}
-use borrow.Author.Needs.{needs}
-use Rattle.unit.proofs.state.name_sent.Statement.{statement}
-use Rattle.unit.proofs.state.name_sent.Tie as tie
-
-pub name-sent-spec : {M : Type 1} → statement M
-name-sent-spec = tie.close (tie.spec (λ c. search needs) (λ c. search needs) (λ c. search needs) (λ c. search needs) (λ c. search needs) (λ c. search name-is) (λ c. search name-is) (λ c. search name-is) (λ c. search name-is) (λ c. search name-is))
