@@ -131,7 +131,7 @@ unfolding beginResult
 begin-state step t request name out b e q n =
     turn-taken (isTool b) (beginNumber (unpackedTool b) request name out) (requestNumber request name) 15 b (tool-size b) (begin-impossible request name out b) (rw (← e) (ap (λ (s : ToolStep). s .number) (sym q) ∙ n))
 
-pub event-state : (step : ToolStep) (t : ToolState) (m : Meaning) (new : List ℕ) (room out : ℕ) (b : List ℕ) → t ≡ unpackedTool b → step ≡ eventResult lab t m new room out → step .number ≡ 0 → length b ≡ 15
+pub event-state : (step : ToolStep) (t : ToolState) (m : Meaning) (new room out : ℕ) (b : List ℕ) → t ≡ unpackedTool b → step ≡ eventResult lab t m new room out → step .number ≡ 0 → length b ≡ 15
 unfolding eventResult
 event-state step t m new room out b e q n =
     turn-taken (isTool b) (eventNumber (unpackedTool b) room out) 0 15 b (tool-size b) (event-impossible room out b) (rw (← e) (ap (λ (s : ToolStep). s .number) (sym q) ∙ n))

@@ -53,10 +53,10 @@ unit-stepped b store f room bytes is =
     kept-packs packedUnit (unitNumber lab store room (unpackedUnit b) f) b (stateAfter (unpackedUnit b) (reactionTo lab store (unpackedUnit b) f)) (unpackedUnit b) (sym (unit-again b bytes is))
 
 module _ (b : List ℕ) (bytes : Bytes b) (is : isTool b ≡ true) where
-  tool-evented : (m : Meaning) (new : List ℕ) (room out : ℕ) → toolKept (eventResult lab (unpackedTool b) m new room out) b ≡ packedTool (eventState (unpackedTool b) m new room out)
+  tool-evented : (m : Meaning) (new room out : ℕ) → toolKept (eventResult lab (unpackedTool b) m new room out) b ≡ packedTool (eventState (unpackedTool b) m new room out)
   unfolding toolKept eventResult eventState
   tool-evented m new room out =
-      kept-packs packedTool (eventNumber (unpackedTool b) room out) b (toolAfter (unpackedTool b) m (length new)) (unpackedTool b) (sym (tool-again b bytes is))
+      kept-packs packedTool (eventNumber (unpackedTool b) room out) b (toolAfter (unpackedTool b) m new) (unpackedTool b) (sym (tool-again b bytes is))
 
   tool-began : (request : ℕ) (name : AnswerName) (out : ℕ) → request ≤ 5 → toolKept (toolBegin b request name out) b ≡ packedTool (beginState (unpackedTool b) (requestFrom request) name out)
   unfolding toolKept toolBegin beginResult beginState

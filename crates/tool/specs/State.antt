@@ -45,12 +45,12 @@ heldRight e held = cond (eqb e 1) (eqb held 0) (leb 2 e && eqb held (2 + 251 * (
 
 -- "for a transfer, a TREP and day that 12 allows and .. held .., within room and 60,000"
 unfoldable pub transferPossible : ℕ → ToolState → Bool
-transferPossible room t =
+transferPossible roomLen t =
     eqb (nameNumber (t .name)) 0
-    && (heldRight (t .expected .0) (t .held) && (leb (t .held) room && leb (t .held) heldMost))
+    && (heldRight (t .expected .0) (t .held) && (leb (t .held) roomLen && leb (t .held) heldMost))
 
 -- "A waiting state has 1 to 3 sendings and, for a transfer, .."; "its state, and every ended one, is possible"
 unfoldable pub possible : ℕ → ToolState → Bool
-possible room t =
+possible roomLen t =
     not (isWaiting (t .outcome))
-    || ((leb 1 (t .sendings) && leb (t .sendings) 3) && (not (isTransfer (t .request)) || transferPossible room t))
+    || ((leb 1 (t .sendings) && leb (t .sendings) 3) && (not (isTransfer (t .request)) || transferPossible roomLen t))

@@ -1,5 +1,7 @@
 // The download tool (document 01, The tool): its state, and its step and sending at every begin and event.
 use catalog::AnswerName;
+use octets::Place;
+use split::Received;
 use split::SubMessage;
 
 mod after;
@@ -30,7 +32,7 @@ pub enum Outcome {
     Refused(u8),
 }
 
-// The request with its TREP and day, how it stands, the sendings of its last frame, the number expected and the bytes held.
+// The request with its TREP and day, how it stands, the sendings of its last frame, the sub message expected and the bytes held.
 pub struct ToolState {
     pub request: Request,
     pub outcome: Outcome,
@@ -59,6 +61,15 @@ pub enum Meaning {
     NoRoomForSubMessage,
     // a wire code other than 78
     RefusedBy(u8),
+}
+
+// A string that arrives: where its data lies, what that is of the answer, how many bytes it adds to those held where it is taken, and
+// what it means.
+pub struct Arrival {
+    pub place: Place,
+    pub received: Received,
+    pub new: usize,
+    pub meaning: Meaning,
 }
 
 // What a call hands back: refused, the state handed in and nothing sent; else the next state and the length of the frame sent, 0 for none.

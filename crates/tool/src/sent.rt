@@ -11,6 +11,14 @@ use frame::messages::STOP;
 use frame::messages::STOPPED;
 use frame::messages::UPLOAD;
 use frame::messages::UPLOAD_GRANTED;
+use octets::wire::ACKNOWLEDGE;
+use octets::wire::ANSWER;
+use octets::wire::DIAGNOSTIC_SESSION;
+use octets::wire::REQUEST_UPLOAD;
+use octets::wire::START_COMMUNICATION;
+use octets::wire::STOP_COMMUNICATION;
+use octets::wire::TRANSFER_DATA;
+use octets::wire::TRANSFER_EXIT;
 use split::AckCode;
 use split::SubMessage;
 ghost use mathlib.Core.Path.{_≡_};
@@ -42,10 +50,10 @@ fn write_transfer_request(name: AnswerName, out: &mut [u8]) -> usize
     let trep = name.trep;
     let day = name.day;
     if !catalog::is_activities(trep) {
-        return write_data(&[0x36, trep], out);
+        return write_data(&[TRANSFER_DATA, trep], out);
     }
     let data = [
-        0x36,
+        TRANSFER_DATA,
         trep,
         (day / 256 / 256 / 256 % 256) as u8,
         (day / 256 / 256 % 256) as u8,
@@ -62,7 +70,7 @@ pub(crate) fn write_acknowledgement(code: AckCode, out: &mut [u8]) -> usize
     ensures { λ _. ⌜ now (out .exit) ≡ front (frameOf lab ends.Unit (acknowledgement code)) (now (out .entry)) ⌝ }
 {
     let c = code.0;
-    let data = [0x83, 0x76, (c / 256 % 256) as u8, (c % 256) as u8];
+    let data = [ACKNOWLEDGE, ANSWER, (c / 256 % 256) as u8, (c % 256) as u8];
     write_data(&data, out)
 }
 
@@ -118,12 +126,18 @@ pub(crate) fn sid_sent(request: Request, expected: SubMessage) -> u8
     ensures { λ r. ⌜ r ≡ sidSent request (expected .0) ⌝ }
 {
     match request {
-        Request::Start => 0x81,
-        Request::Session => 0x10,
-        Request::Upload => 0x35,
-        Request::Exit => 0x37,
-        Request::Stop => 0x82,
-        Request::Transfer => { if expected.0 == 1 { 0x36 } else { 0x83 } }
+        Request::Start => START_COMMUNICATION,
+        Request::Session => DIAGNOSTIC_SESSION,
+        Request::Upload => REQUEST_UPLOAD,
+        Request::Exit => TRANSFER_EXIT,
+        Request::Stop => STOP_COMMUNICATION,
+        Request::Transfer => {
+            if expected.0 == 1 {
+                TRANSFER_DATA
+            } else {
+                ACKNOWLEDGE
+            }
+        }
     }
 }
 

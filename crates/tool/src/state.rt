@@ -65,8 +65,8 @@ fn held_right(expected: u32, held: u32) -> bool
     held == 2 + 251 * (expected - 1)
 }
 
-fn transfer_possible(state: ToolState, room: usize) -> bool
-    ensures { λ r. ⌜ r ≡ transferPossible room state ⌝ }
+fn transfer_possible(state: ToolState, room_len: usize) -> bool
+    ensures { λ r. ⌜ r ≡ transferPossible «room_len» state ⌝ }
 {
     let name = state.name;
     let held = state.held as usize;
@@ -76,15 +76,15 @@ fn transfer_possible(state: ToolState, room: usize) -> bool
     if !held_right(state.expected.0 as u32, state.held) {
         return false;
     }
-    if room < held {
+    if room_len < held {
         return false;
     }
     held <= HELD_MOST
 }
 
 // Whether the state can be, with a room of this length. Every state that does not wait can.
-pub fn possible(state: ToolState, room: usize) -> bool
-    ensures { λ r. ⌜ r ≡ possible room state ⌝ }
+pub fn possible(state: ToolState, room_len: usize) -> bool
+    ensures { λ r. ⌜ r ≡ possible «room_len» state ⌝ }
 {
     let outcome = state.outcome;
     let request = state.request;
@@ -101,5 +101,5 @@ pub fn possible(state: ToolState, room: usize) -> bool
     if !is_transfer(request) {
         return true;
     }
-    transfer_possible(state, room)
+    transfer_possible(state, room_len)
 }

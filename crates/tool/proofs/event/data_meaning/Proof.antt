@@ -8,4 +8,17 @@ use Rattle.tool.proofs.event.data_meaning.Tie as tie
 ruleset all = (needs, flag-t, flag-f, data-refusal, data-transfer, data-reply, data-other)
 
 pub data-meaning-spec : {M : Type 1} → statement M
-data-meaning-spec = tie.close (tie.spec (λ c κs. search all) (λ c κs. search all) (λ c κs. search all) (λ c. search all) (λ c κs. search all) (λ c κs. search all) (λ c. search all) (λ c κs. search all) (λ c. search all) (λ c. search all))
+data-meaning-spec =
+    tie.close
+    (tie.spec
+    (λ c κs. search all)
+    (λ c κs. search all)
+    (λ c κs. search all)
+    (λ c. search all)
+    (λ c κs. search all)
+    (λ c κs. search all)
+    (λ c κs. search all)
+    (λ c. search all)
+    (λ c κs. search all)
+    (λ c. search all)
+    (λ c. search all))

@@ -1,10 +1,16 @@
--- One law for each case.
-use Rattle.tool.proofs.RoomLaws.{length-whole, length-full, length-last, length-above, length-other}
+-- The header and what the data carries.
+use Rattle.tool.proofs.RoomLaws.{new-length}
 use borrow.Author.Needs.{needs}
 use Rattle.tool.proofs.room.new_length.Statement.{statement}
 use Rattle.tool.proofs.room.new_length.Tie as tie
 
-ruleset all = (needs, length-whole, length-full, length-last, length-above, length-other)
+ruleset all = (needs, new-length)
 
 pub new-length-spec : {M : Type 1} → statement M
-new-length-spec = tie.close (tie.spec (λ c κs. search all) (λ c. search all) (λ c. search all) (λ c κs. search all) (λ c. search all) (λ c. search all) (λ c κs. search all) (λ c. search all) (λ c. search all) (λ c. search all) (λ c. search all) (λ c. search all) (λ c. search all) (λ c. search all) (λ c. search all))
+new-length-spec =
+    tie.close
+    (tie.spec
+    (λ c κs. search all)
+    (λ c κs. search all)
+    (λ c. search all)
+    (λ c. search all))
