@@ -45,7 +45,7 @@ fn count_right(frame: &[u8]) -> bool
     if frame[0] == 0x81 {
         frame.len() == 5
     } else {
-        0 < len && frame.len() == octets::big_endian::wide(len) + 5
+        0 < len && frame.len() == octets::big_endian::usize_of(len) + 5
     }
 }
 
@@ -134,7 +134,7 @@ pub fn locate(frame: &[u8], end: End) -> Place
     Place {
         number: 0,
         start: 4,
-        len: octets::big_endian::wide(octets::big_endian::byte_at(frame, 3)),
+        len: octets::big_endian::usize_of(octets::big_endian::byte_at(frame, 3)),
     }
 }
 

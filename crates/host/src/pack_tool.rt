@@ -169,7 +169,10 @@ pub(crate) fn unpack(bytes: &[u8]) -> ToolState
             day: number_at(bytes, 4, 4),
         },
         sendings: byte_at(bytes, 8),
-        expected: SubMessage(octets::big_endian::two(byte_at(bytes, 9), byte_at(bytes, 10))),
+        expected: SubMessage(octets::big_endian::number_of_two(
+            byte_at(bytes, 9),
+            byte_at(bytes, 10),
+        )),
         held: number_at(bytes, 11, 4),
     }
 }

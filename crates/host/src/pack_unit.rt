@@ -133,7 +133,7 @@ pub(crate) fn unpack(bytes: &[u8]) -> UnitState
         trep: byte_at(bytes, 4),
         day: number_at(bytes, 5, 4),
     };
-    let last = SubMessage(octets::big_endian::two(byte_at(bytes, 9), byte_at(bytes, 10)));
+    let last = SubMessage(octets::big_endian::number_of_two(byte_at(bytes, 9), byte_at(bytes, 10)));
     UnitState {
         kind: byte_at(bytes, 0),
         rate: byte_at(bytes, 1),
