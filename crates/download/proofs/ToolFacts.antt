@@ -1,6 +1,6 @@
 -- What the tool does at the strings of one transfer.
 use Prim.Native.Nat.{ℕ, zero, suc, _+_, _-_, _*_, _/_, _%_, _<_, _≤_}
-use mathlib.Core.Bool.{Bool, true, false, _&&_}
+use mathlib.Core.Bool.{true, false}
 use mathlib.Core.List.{List, [], _++_}
 use mathlib.Core.Path.{_≡_, refl, sym, ap, _∙_}
 use native.Mathlib.Omega.{arith}
@@ -10,6 +10,7 @@ use lib.ListN.{length, drop, length-append}
 use borrow.Author.Tests.{eq-eqb, ne-eqb, le-leb, lt-leb, lt-ltb, le-ltb, ltb-true, ltb-false, not-true}
 use Rattle.octets.specs.Buffer.{front, put}
 use Rattle.octets.specs.BigEndian.{numberAt}
+use Rattle.octets.proofs.Tests.{and-false}
 use Rattle.octets.proofs.BufferLaws.{length-front, put-front}
 use Rattle.frame.specs.declared.Addresses.{Addresses}
 use Rattle.frame.specs.declared.End.the-variants as ends
@@ -66,13 +67,9 @@ module _ (a : Addresses) (output : ℕ) (t : ToolRoom) (z : eventNumber (t .stat
 
 -- The answer's frames, to a tool that expects e
 
-and-false : (b : Bool) → (b && false) ≡ false
-and-false true = refl
-and-false false = refl
-
 no-refusal : (t : ToolState) (trep k : ℕ) (d : List ℕ) → isRefusal t (subField trep k d) ≡ false
 unfolding isRefusal subField
-no-refusal t trep k d = and-false (eqb (length (subField trep k d)) 3)
+no-refusal t trep k d = and-false (eqb (length (subField trep k d)) 3) false refl
 
 whole-is : (trep : ℕ) (d : List ℕ) → length d ≤ 252 → receivedAs trep 1 (subField trep 1 d) ≡ Whole
 whole-is trep d h =
@@ -94,7 +91,7 @@ module _ (trep : ℕ) (d : List ℕ) (h : 252 < length d) (k : ℕ) (b : k < 655
   full-is : 1 ≤ k → k ≤ length d / 251 → receivedAs trep k (subField trep k d) ≡ Full
   full-is f l =
       let n : length (subField trep k d) ≡ 255 = length-full trep d h k f l in
-      let w : isWhole k (length (subField trep k d)) ≡ false = rw n (and-false (eqb k 1)) in
+      let w : isWhole k (length (subField trep k d)) ≡ false = rw n (and-false (eqb k 1) false refl) in
       sym (full trep k (subField trep k d) (answers-back trep k d) w k four read-back (omega arith) (omega arith) (omega arith))
 
   last-is : k ≡ length d / 251 + 1 → receivedAs trep k (subField trep k d) ≡ Last

@@ -8,7 +8,6 @@ use lib.Dec.{eqb, leb}
 use lib.ListN.{length, getD}
 use borrow.Author.Tests.{le-leb, lt-leb, eq-eqb, ne-eqb, eqb-true, leb-true}
 use Rattle.octets.specs.BigEndian.{numberOf, bytesOf, numberAt}
-use Rattle.octets.specs.Buffer.{copied}
 use Rattle.octets.proofs.NumberLaws.{number-of-bytes}
 use Rattle.octets.proofs.Tests.{and-left, and-right}
 use Rattle.split.specs.Codes.{sub}
@@ -74,11 +73,13 @@ module _ (b : List ℕ) where
 
 -- Packing
 
-pub tool-packed : (t : ToolState) (x y code : ℕ) (o o′ : List ℕ) → x ≡ requestByte (t .request) → y ≡ outcomeByte (t .outcome) → code ≡ codeByte (t .outcome) →
-    o′ ≡ copied (x ∷ y ∷ code ∷ t .name .trep ∷ t .name .day / 256 / 256 / 256 % 256 ∷ t .name .day / 256 / 256 % 256 ∷ t .name .day / 256 % 256 ∷ t .name .day % 256 ∷ t .sendings ∷ t .expected .0 / 256 % 256 ∷ t .expected .0 % 256 ∷ t .held / 256 / 256 / 256 % 256 ∷ t .held / 256 / 256 % 256 ∷ t .held / 256 % 256 ∷ t .held % 256 ∷ []) o →
-    o′ ≡ copied (packedTool t) o
+pub tool-packed : (t : ToolState) (x y code : ℕ) → x ≡ requestByte (t .request) → y ≡ outcomeByte (t .outcome) → code ≡ codeByte (t .outcome)
+    → x ∷ y ∷ code ∷ t .name .trep ∷ t .name .day / 256 / 256 / 256 % 256 ∷ t .name .day / 256 / 256 % 256 ∷ t .name .day / 256 % 256 ∷ t .name .day % 256 ∷ t .sendings
+    ∷ t .expected .0 / 256 % 256 ∷ t .expected .0 % 256
+    ∷ t .held / 256 / 256 / 256 % 256 ∷ t .held / 256 / 256 % 256 ∷ t .held / 256 % 256 ∷ t .held % 256 ∷ []
+    ≡ packedTool t
 unfolding packedTool
-tool-packed t x y code o o′ p q r e = rw (← p, ← q, ← r) e
+tool-packed t x y code p q r = rw (← p, ← q, ← r)
 
 pub length-tool : (t : ToolState) → length (packedTool t) ≡ 15
 unfolding packedTool

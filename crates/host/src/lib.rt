@@ -2,6 +2,7 @@
 pub mod arrays;
 pub mod bench_store;
 pub mod frames;
+mod hand;
 mod pack_tool;
 mod pack_unit;
 pub mod splitting;

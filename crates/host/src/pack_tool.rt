@@ -7,7 +7,6 @@ use tool::Outcome;
 use tool::Request;
 use tool::ToolState;
 ghost use mathlib.Core.Path.{_≡_};
-ghost use Rattle.octets.specs.Buffer.{copied};
 ghost use Rattle.host.specs.Packed.{requestByte, requestFrom, outcomeByte, codeByte, outcomeFrom, packedTool, isTool, noTool, unpackedTool};
 
 // The bytes of a packed state.
@@ -94,16 +93,16 @@ fn outcome_from(byte: u8, code: u8) -> Outcome
     Outcome::Refused(code)
 }
 
-// Packs a state into the first 15 bytes of `out`; nothing where it is shorter.
-pub(crate) fn pack(state: ToolState, out: &mut [u8])
-    ensures { λ _. ⌜ now (out .exit) ≡ copied (packedTool state) (now (out .entry)) ⌝ }
+// The bytes of a state.
+pub(crate) fn pack(state: ToolState) -> [u8; SIZE]
+    ensures { λ r. ⌜ r ≡ packedTool state ⌝ }
 {
     let request = state.request;
     let outcome = state.outcome;
     let day = state.name.day;
     let expected = state.expected.0;
     let held = state.held;
-    let bytes = [
+    [
         request_byte(request),
         outcome_byte(outcome),
         code_byte(outcome),
@@ -119,8 +118,7 @@ pub(crate) fn pack(state: ToolState, out: &mut [u8])
         (held / 256 / 256 % 256) as u8,
         (held / 256 % 256) as u8,
         (held % 256) as u8,
-    ];
-    octets::buffer::copy_in(out, &bytes);
+    ]
 }
 
 fn is_state(bytes: &[u8]) -> bool

@@ -6,7 +6,6 @@ use split::SubMessage;
 use unit::Phase;
 use unit::UnitState;
 ghost use mathlib.Core.Path.{_≡_};
-ghost use Rattle.octets.specs.Buffer.{copied};
 ghost use Rattle.host.specs.Packed.{phaseByte, phaseFrom, nameSent, lastSent, packedUnit, isUnit, noUnit, unpackedUnit};
 
 // The bytes of a packed state.
@@ -66,15 +65,15 @@ fn last_sent(phase: Phase) -> SubMessage
     }
 }
 
-// Packs a state into the first 11 bytes of `out`; nothing where it is shorter.
-pub(crate) fn pack(state: UnitState, out: &mut [u8])
-    ensures { λ _. ⌜ now (out .exit) ≡ copied (packedUnit state) (now (out .entry)) ⌝ }
+// The bytes of a state.
+pub(crate) fn pack(state: UnitState) -> [u8; SIZE]
+    ensures { λ r. ⌜ r ≡ packedUnit state ⌝ }
 {
     let phase = state.phase;
     let name = name_sent(phase);
     let day = name.day;
     let last = last_sent(phase).0;
-    let bytes = [
+    [
         state.kind,
         state.rate,
         state.pending,
@@ -86,8 +85,7 @@ pub(crate) fn pack(state: UnitState, out: &mut [u8])
         (day % 256) as u8,
         (last / 256 % 256) as u8,
         (last % 256) as u8,
-    ];
-    octets::buffer::copy_in(out, &bytes);
+    ]
 }
 
 fn is_state(bytes: &[u8]) -> bool

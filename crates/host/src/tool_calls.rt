@@ -3,7 +3,6 @@ use catalog::AnswerName;
 use octets::Written;
 use octets::numbers::BUFFER_SHORT;
 use octets::numbers::NOT_IN_TABLE;
-use tool::ToolStep;
 ghost use mathlib.Core.Path.{_≡_};
 ghost use lib.ListN.{length};
 ghost use Rattle.host.specs.Calls.{toolFreshNumber, toolFreshState, toolHanded, toolKept, toolBegin, toolBeginOut, toolArrival, toolArrivalRoom, toolArrivalOut, toolWait, toolWaitOut};
@@ -17,24 +16,8 @@ pub extern "C" fn tacho_tool_fresh(state: &mut [u8]) -> u8
     if state.len() < crate::pack_tool::SIZE {
         return BUFFER_SHORT;
     }
-    crate::pack_tool::pack(tool::state::fresh(), state);
+    octets::buffer::copy_in(state, &crate::pack_tool::pack(tool::state::fresh()));
     0
-}
-
-// What a step hands to the host. The next state is packed only where nothing is refused; then the bytes were a state.
-fn hand(step: ToolStep, state: &mut [u8]) -> Written
-    requires { ⌜ (step .number ≡ 0 → length (now state) ≡ 15) ⌝ }
-    ensures { λ r. ⌜ r ≡ toolHanded step ⌝ }
-    ensures { λ _. ⌜ now (state .exit) ≡ toolKept step (now (state .entry)) ⌝ }
-{
-    let number = step.number;
-    let len = step.len;
-    if number != 0 {
-        return Written { number, len };
-    }
-    let next = step.state;
-    crate::pack_tool::pack(next, state);
-    Written { number, len }
 }
 
 // Begins a request: 0 start, 1 session, 2 upload, 3 exit, 4 stop, 5 transfer. Refused by 12, 11 and 4, in this order.
@@ -59,7 +42,8 @@ pub extern "C" fn tacho_tool_begin(
     let was = crate::pack_tool::unpack(state);
     let asked = crate::pack_tool::request_from(request);
     let step = tool::call::begin(was, asked, AnswerName { trep, day }, out);
-    hand(step, state)
+    let next = step.state;
+    crate::hand::hand(step.number, step.len, &crate::pack_tool::pack(next), state)
 }
 
 // A frame arrived, good or not. Refused by 11 and 4, in this order.
@@ -77,7 +61,8 @@ pub extern "C" fn tacho_tool_arrived(
 {
     let was = crate::pack_tool::unpack(state);
     let step = tool::call::arrived(was, frame, room, out);
-    hand(step, state)
+    let next = step.state;
+    crate::hand::hand(step.number, step.len, &crate::pack_tool::pack(next), state)
 }
 
 // The wait for a frame ended; the room is only looked at. Refused by 11 and 4, in this order.
@@ -89,5 +74,6 @@ pub extern "C" fn tacho_tool_wait_ended(state: &mut [u8], room: &[u8], out: &mut
 {
     let was = crate::pack_tool::unpack(state);
     let step = tool::call::wait_ended(was, room, out);
-    hand(step, state)
+    let next = step.state;
+    crate::hand::hand(step.number, step.len, &crate::pack_tool::pack(next), state)
 }

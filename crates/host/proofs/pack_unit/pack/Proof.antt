@@ -1,4 +1,4 @@
--- The bytes of the state, copied once.
+-- The bytes of the state.
 use Rattle.host.proofs.UnitLaws.{unit-packed}
 use borrow.Author.Needs.{needs}
 use Rattle.host.proofs.pack_unit.pack.Statement.{statement}
@@ -7,4 +7,16 @@ use Rattle.host.proofs.pack_unit.pack.Tie as tie
 ruleset all = (needs, unit-packed)
 
 pub pack-spec : {M : Type 1} → statement M
-pack-spec = tie.close (tie.spec (λ c κs. search all) (λ c κs. search all) (λ c κs. search all) (λ c. search all) (λ c. search all) (λ c. search all) (λ c. search all) (λ c. search all) (λ c. search all) (λ c. search all) (λ c κs. search all) (λ c. search all) (λ c. search all))
+pack-spec =
+    tie.close
+    (tie.spec
+    (λ c κs. search all)
+    (λ c κs. search all)
+    (λ c κs. search all)
+    (λ c. search all)
+    (λ c. search all)
+    (λ c. search all)
+    (λ c. search all)
+    (λ c. search all)
+    (λ c. search all)
+    (λ c. search all))

@@ -7,4 +7,14 @@ use Rattle.host.proofs.unit_calls.tacho_unit_step.Tie as tie
 ruleset all = (needs, step-state, step-handed, step-kept, step-reply)
 
 pub tacho-unit-step-spec : {M : Type 1} → statement M
-tacho-unit-step-spec = tie.close (tie.spec (λ c κs. search all) (λ c κs. search all) (λ c κs. search all) (λ c. search all) (λ c. search all) (λ c. (search all, (search all, search all))))
+tacho-unit-step-spec =
+    tie.close
+    (tie.spec
+    (λ c κs. search all)
+    (λ c κs. search all)
+    (λ c κs. search all)
+    (λ c. search all)
+    (λ c κs. λ z. search all)
+    (λ c. search all)
+    (λ c. search all)
+    (λ c. (search all, (search all, search all))))
