@@ -13,8 +13,8 @@ use Rattle.split.proofs.Theorems.{sub-reads-back}
 use Rattle.unit.specs.declared.Phase.{Phase}
 use Rattle.unit.specs.declared.Phase.the-variants.{Closed, Started, Session, Granted, Sending}
 use Rattle.unit.specs.State.{placeSent, phasePossible}
-use Rattle.tool.specs.declared.Outcome.{Outcome}
-use Rattle.tool.specs.declared.Outcome.the-variants.{NoRoom, Refused}
+use Rattle.arrival.specs.declared.Outcome.{Outcome}
+use Rattle.arrival.specs.declared.Outcome.the-variants.{NoRoom, Refused}
 use Rattle.line.specs.Line.{toolEnd, Event}
 use Rattle.line.specs.Book as books
 use Rattle.line.specs.Book.{Run, run, start}

@@ -13,9 +13,11 @@ use Rattle.store.specs.Read.{lookupNumber, lookupPlace, lookupPart}
 use Rattle.unit.specs.State.{sendable, phasePossible, possibleAt, possible}
 use Rattle.unit.specs.Services.{requestName, answerFrom, onTransfer, onCode, onSending, onAcknowledge}
 use Rattle.unit.specs.Call.{onData, reactionAt, reactionTo, stateAfter as unitAfter, replyData, replyTo, numberBefore, unitNumber, unitState, unitReply, unitResult}
-use Rattle.tool.specs.State.{heldRight, transferPossible, possible as toolPossible}
-use Rattle.tool.specs.Sent.{transferRequest, acknowledgement, transferData, frameSent, sidSent}
-use Rattle.tool.specs.Event.{header, fits, meaningOf, transferMeaning, isRefusal, refusalMeaning, dataMeaning, arrivalMeaning, arrivalBytes, takes, afterFailedWait, stateAfter, sentAfter, roomAfter}
+use Rattle.arrival.specs.State.{heldRight, transferPossible, possible as toolPossible}
+use Rattle.tool.specs.Sent.{transferRequest, acknowledgement, transferData, frameSent}
+use Rattle.arrival.specs.Replies.{sidSent}
+use Rattle.arrival.specs.Meaning.{header, fits, meaningOf, transferMeaning, isRefusal, refusalMeaning, dataMeaning, arrivalMeaning, arrivalBytes}
+use Rattle.tool.specs.After.{takes, afterFailedWait, stateAfter, sentAfter, roomAfter}
 use Rattle.tool.specs.Call.{requestNumber, beginNumber, beginState, beginSent, beginResult, eventNumber, eventState, eventSent, eventRoom, eventResult}
 
 -- a lookup in a store

@@ -23,15 +23,16 @@ use Rattle.split.specs.declared.Received.the-variants.{Whole, Full, Last, Other
 use Rattle.split.proofs.SplitLaws.{carries-split, field-split}
 use Rattle.split.proofs.JoinLaws.{whole-answer, other-below, last, full}
 use Rattle.split.proofs.Theorems.{sub-good, sub-reads-back, answers-back, count-one, count-split, length-one, length-full, length-last, number-reads-back}
-use Rattle.tool.specs.declared.Request.the-variants as requests
-use Rattle.tool.specs.declared.Outcome.{Outcome}
-use Rattle.tool.specs.declared.Outcome.the-variants.{Waiting, Done, NoAnswer}
-use Rattle.tool.specs.declared.ToolState.{ToolState}
-use Rattle.tool.specs.declared.Meaning.{Meaning}
-use Rattle.tool.specs.declared.Meaning.the-variants.{FailedWait, WholeAnswer, SubMessageTaken, LastTaken}
-use Rattle.tool.specs.State.{heldRight, transferPossible, possible}
+use Rattle.arrival.specs.declared.Request.the-variants as requests
+use Rattle.arrival.specs.declared.Outcome.{Outcome}
+use Rattle.arrival.specs.declared.Outcome.the-variants.{Waiting, Done, NoAnswer}
+use Rattle.arrival.specs.declared.ToolState.{ToolState}
+use Rattle.arrival.specs.declared.Meaning.{Meaning}
+use Rattle.arrival.specs.declared.Meaning.the-variants.{FailedWait, WholeAnswer, SubMessageTaken, LastTaken}
+use Rattle.arrival.specs.State.{heldRight, transferPossible, possible}
 use Rattle.tool.specs.Sent.{frameSent}
-use Rattle.tool.specs.Event.{header, newBytes, fits, meaningOf, transferMeaning, isRefusal, dataMeaning, arrivalMeaning, arrivalBytes, takes as takesBytes, afterFailedWait, stateAfter, sentAfter, roomAfter}
+use Rattle.arrival.specs.Meaning.{header, newBytes, fits, meaningOf, transferMeaning, isRefusal, dataMeaning, arrivalMeaning, arrivalBytes}
+use Rattle.tool.specs.After.{takes as takesBytes, afterFailedWait, stateAfter, sentAfter, roomAfter}
 use Rattle.tool.specs.Call.{eventNumber, eventState, eventSent, eventRoom, eventResult}
 use Rattle.line.specs.Line.{Result, silent, sends, toolEnd}
 use Rattle.line.proofs.Cases.{byTest}

@@ -27,7 +27,7 @@ use Rattle.unit.specs.declared.Reaction.the-variants.{SessionOpened, UploadGran
 use Rattle.unit.specs.State.{isClosed, isGranted, possible}
 use Rattle.unit.specs.Services.{onSession, onUpload, answerFrom}
 use Rattle.unit.specs.Call.{onData, reactionTo, replyData, replyTo, unitReply}
-use Rattle.tool.specs.declared.Request.the-variants as requests
+use Rattle.arrival.specs.declared.Request.the-variants as requests
 use Rattle.tool.specs.Sent.{transferRequest, acknowledgement, transferData, frameSent}
 use Rattle.download.specs.TradeCases.{Called, Asked, lens, store12, TradeCases}
 use Rattle.download.proofs.Runs.{lookups, calls}

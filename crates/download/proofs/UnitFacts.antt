@@ -28,7 +28,7 @@ use Rattle.unit.specs.declared.Reaction.the-variants.{AnswerSent}
 use Rattle.unit.specs.State.{isGranted, placeSent, sendable, phasePossible, possibleAt, possible}
 use Rattle.unit.specs.Services.{answerFrom, onAcknowledge}
 use Rattle.unit.specs.Call.{placeAsked, onData, reactionTo, withPhase, stateAfter, replyData, replyTo, numberBefore, unitNumber, unitState, unitReply, unitResult}
-use Rattle.tool.specs.declared.Request.the-variants as requests
+use Rattle.arrival.specs.declared.Request.the-variants as requests
 use Rattle.tool.specs.Sent.{acknowledgement, transferData, frameSent}
 use Rattle.tool.specs.Call.{requestNumber, beginNumber}
 use Rattle.line.specs.Line.{Result, silent, sends, unitEnd}

@@ -21,7 +21,7 @@ use Rattle.unit.specs.declared.UnitState.{UnitState}
 use Rattle.unit.specs.declared.Phase.the-variants.{Started, Session, Granted, Sending}
 use Rattle.unit.specs.State as unitStates
 use Rattle.unit.specs.Call.{unitReply}
-use Rattle.tool.specs.declared.Request.the-variants as requests
+use Rattle.arrival.specs.declared.Request.the-variants as requests
 use Rattle.tool.specs.Sent.{transferRequest, acknowledgement, frameSent}
 
 -- a unit's call that neither 5 nor 11 nor 4 refuses

@@ -5,7 +5,7 @@ use mathlib.Core.List.{List, append-nil}
 use mathlib.Core.Path.{_≡_, refl, sym, ap, _∙_}
 use native.Mathlib.Omega.{arith}
 use lib.ListN.{length, drop-of-length-le}
-use borrow.Author.Tests.{lt-ltb, le-ltb, le-leb, lt-leb, eq-eqb, ne-eqb}
+use borrow.Author.Tests.{lt-ltb, le-ltb, le-leb, lt-leb, eq-eqb}
 use Rattle.octets.specs.Order.{orElse}
 use Rattle.octets.specs.Numbers.{changedBy}
 use Rattle.octets.specs.Buffer.{front, copied}
@@ -21,11 +21,11 @@ use Rattle.unit.specs.declared.UnitState.{UnitState}
 use Rattle.unit.specs.declared.UnitReply.{UnitReply}
 use Rattle.unit.specs.State as unit-state
 use Rattle.unit.specs.Call.{numberBefore, unitNumber, unitResult, unitOut}
-use Rattle.tool.specs.declared.Request.{Request}
-use Rattle.tool.specs.declared.Meaning.{Meaning}
-use Rattle.tool.specs.declared.ToolState.{ToolState}
+use Rattle.arrival.specs.declared.Request.{Request}
+use Rattle.arrival.specs.declared.Meaning.{Meaning}
+use Rattle.arrival.specs.declared.ToolState.{ToolState}
 use Rattle.tool.specs.declared.ToolStep.{ToolStep}
-use Rattle.tool.specs.State as tool-state
+use Rattle.arrival.specs.State as tool-state
 use Rattle.tool.specs.Call.{requestNumber, beginNumber, beginResult, beginOut, eventNumber, eventResult, arrivalResult, arrivalRoom, arrivalOut, waitResult, waitOut}
 use Rattle.host.specs.Packed.{packedUnit, isUnit, noUnit, unpackedUnit, requestFrom, packedTool, isTool, noTool, unpackedTool}
 use Rattle.host.specs.Calls.{unitFreshNumber, unitFreshState, unitHanded, unitKept, unitStep, unitStepReply, toolFreshNumber, toolFreshState, toolHanded, toolKept, toolBegin, toolBeginOut, toolArrival, toolArrivalRoom, toolArrivalOut, toolWait, toolWaitOut}

@@ -15,7 +15,7 @@ use Rattle.catalog.specs.declared.AnswerName.{AnswerName}
 use Rattle.store.specs.Layout.{narrow}
 use Rattle.store.specs.Check.{storeNumber}
 use Rattle.unit.specs.Call.{unitReply, unitResult, unitOut}
-use Rattle.tool.specs.declared.Meaning.{Meaning}
+use Rattle.arrival.specs.declared.Meaning.{Meaning}
 use Rattle.tool.specs.Call.{requestNumber, beginNumber, beginSent, beginResult, beginOut, eventSent, eventRoom, eventResult, eventOut}
 use Rattle.host.specs.Packed.{isUnit, requestFrom, isTool, unpackedTool}
 use Rattle.host.specs.Calls.{unitFreshNumber, unitFreshState, unitHanded, unitKept, unitStep, unitStepReply}

@@ -13,7 +13,7 @@ use Rattle.octets.proofs.Tests.{and-left, and-right, never}
 use Rattle.catalog.specs.declared.AnswerName.{AnswerName}
 use Rattle.split.specs.declared.SubMessage.{SubMessage}
 use Rattle.split.specs.Codes.{sub}
-use Rattle.tool.specs.State.{noName}
+use Rattle.arrival.specs.State.{noName}
 use Rattle.unit.specs.declared.Phase.{Phase}
 use Rattle.unit.specs.declared.Phase.the-variants.{Closed, Started, Session, Granted, Sending}
 use Rattle.unit.specs.declared.UnitState.{UnitState}

@@ -1,11 +1,11 @@
 // The tool's state in 15 bytes: request, outcome, wire code, TREP, day (4), sendings, expected (2), held (4).
+use arrival::Outcome;
+use arrival::Request;
+use arrival::ToolState;
 use catalog::AnswerName;
 use octets::big_endian::byte_at;
 use octets::big_endian::number_at;
 use split::SubMessage;
-use tool::Outcome;
-use tool::Request;
-use tool::ToolState;
 ghost use mathlib.Core.Path.{_≡_};
 ghost use Rattle.host.specs.Packed.{requestByte, requestFrom, outcomeByte, codeByte, outcomeFrom, packedTool, isTool, noTool, unpackedTool};
 

@@ -16,7 +16,7 @@ pub extern "C" fn tacho_tool_fresh(state: &mut [u8]) -> u8
     if state.len() < crate::pack_tool::SIZE {
         return BUFFER_SHORT;
     }
-    octets::buffer::copy_in(state, &crate::pack_tool::pack(tool::state::fresh()));
+    octets::buffer::copy_in(state, &crate::pack_tool::pack(arrival::state::fresh()));
     0
 }
 

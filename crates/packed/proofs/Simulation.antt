@@ -14,10 +14,10 @@ use Rattle.unit.specs.declared.UnitState.{UnitState}
 use Rattle.unit.specs.State.{freshUnit}
 use Rattle.unit.specs.Call.{reactionTo, stateAfter, unitNumber, unitState, unitResult}
 use Rattle.unit.proofs.BoundLaws as units
-use Rattle.tool.specs.declared.ToolState.{ToolState}
-use Rattle.tool.specs.declared.Meaning.{Meaning}
-use Rattle.tool.specs.State.{freshTool}
-use Rattle.tool.specs.Event.{stateAfter as toolAfter}
+use Rattle.arrival.specs.declared.ToolState.{ToolState}
+use Rattle.arrival.specs.declared.Meaning.{Meaning}
+use Rattle.arrival.specs.State.{freshTool}
+use Rattle.tool.specs.After.{stateAfter as toolAfter}
 use Rattle.tool.specs.Call.{begun, beginNumber, beginState, beginResult, eventNumber, eventState, eventResult}
 use Rattle.tool.proofs.BoundLaws as tools
 use Rattle.host.specs.Packed.{packedUnit, isUnit, unpackedUnit, requestFrom, packedTool, isTool, unpackedTool}

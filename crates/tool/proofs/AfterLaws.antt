@@ -15,13 +15,13 @@ use Rattle.frame.specs.declared.End.the-variants as ends
 use Rattle.frame.specs.Frame.{frameOf}
 use Rattle.split.specs.Codes.{stopCode}
 use Rattle.split.specs.declared.AckCode.{AckCode}
-use Rattle.tool.specs.declared.Outcome.the-variants.{Done, NoAnswer}
-use Rattle.tool.specs.declared.ToolState.{ToolState}
-use Rattle.tool.specs.declared.Meaning.{Meaning}
-use Rattle.tool.specs.declared.Meaning.the-variants.{FailedWait, WholeAnswer, SubMessageTaken, LastTaken, NoRoomForSubMessage}
-use Rattle.tool.specs.State.{heldMost}
+use Rattle.arrival.specs.declared.Outcome.the-variants.{Done, NoAnswer}
+use Rattle.arrival.specs.declared.ToolState.{ToolState}
+use Rattle.arrival.specs.declared.Meaning.{Meaning}
+use Rattle.arrival.specs.declared.Meaning.the-variants.{FailedWait, WholeAnswer, SubMessageTaken, LastTaken, NoRoomForSubMessage}
+use Rattle.arrival.specs.State.{heldMost}
 use Rattle.tool.specs.Sent.{acknowledgement, frameSent}
-use Rattle.tool.specs.Event.{ended, waits, afterFailedWait, takes, stateAfter, sentAfter}
+use Rattle.tool.specs.After.{ended, waits, afterFailedWait, takes, stateAfter, sentAfter}
 
 -- "after the third sending the request ends"
 module _ (t r : ToolState) where

@@ -3,7 +3,7 @@
 use Prim.Native.Nat.{ℕ, _+_, _<_, _≤_}
 use mathlib.Core.Bool.{Bool, true, false, cond}
 use mathlib.Core.List.{List}
-use mathlib.Core.Path.{_≡_, refl, sym, _∙_}
+use mathlib.Core.Path.{_≡_, refl}
 use native.Mathlib.Omega.{arith}
 use lib.Dec.{eqb, leb}
 use lib.ListN.{length}
@@ -11,16 +11,17 @@ use borrow.Author.Tests.{eqb-true}
 use Rattle.octets.proofs.Tests.{never}
 use Rattle.frame.specs.declared.Addresses.{Addresses}
 use Rattle.catalog.specs.declared.AnswerName.{AnswerName}
-use Rattle.tool.specs.declared.Request.{Request}
-use Rattle.tool.specs.declared.Outcome.the-variants.{NoAnswer}
-use Rattle.tool.specs.declared.ToolState.{ToolState}
-use Rattle.tool.specs.declared.Meaning.{Meaning}
-use Rattle.tool.specs.declared.Meaning.the-variants.{Ignored, FailedWait, Confirmed, WholeAnswer, SubMessageTaken, LastTaken, NoRoomForAnswer, NoRoomForSubMessage, RefusedBy}
-use Rattle.tool.specs.State.{heldMost}
-use Rattle.tool.specs.Event.{arrivalMeaning, arrivalBytes, takes, ended, waits, afterFailedWait, stateAfter}
+use Rattle.arrival.specs.declared.Request.{Request}
+use Rattle.arrival.specs.declared.Outcome.the-variants.{NoAnswer}
+use Rattle.arrival.specs.declared.ToolState.{ToolState}
+use Rattle.arrival.specs.declared.Meaning.{Meaning}
+use Rattle.arrival.specs.declared.Meaning.the-variants.{Ignored, FailedWait, Confirmed, WholeAnswer, SubMessageTaken, LastTaken, NoRoomForAnswer, NoRoomForSubMessage, RefusedBy}
+use Rattle.arrival.specs.State.{heldMost}
+use Rattle.arrival.specs.Meaning.{arrivalMeaning, arrivalBytes}
+use Rattle.tool.specs.After.{takes, ended, waits, afterFailedWait, stateAfter}
 use Rattle.tool.specs.Call.{begun, beginNumber, beginState, eventNumber, eventState}
-use Rattle.tool.proofs.RoomLaws.{fits-in-most}
-use Rattle.tool.proofs.EventLaws.{taken}
+use Rattle.arrival.proofs.RoomLaws.{fits-in-most}
+use Rattle.tool.proofs.TakenLaws.{taken}
 use Rattle.tool.proofs.CallLaws.{step-next}
 
 pub record Fits (t : ToolState) : Type 0 where

@@ -16,17 +16,18 @@ use Rattle.frame.specs.declared.Addresses.{Addresses}
 use Rattle.frame.specs.Frame.{dataOf}
 use Rattle.catalog.specs.Name.{nameNumber}
 use Rattle.catalog.specs.declared.AnswerName.{AnswerName}
-use Rattle.tool.specs.declared.Request.{Request}
-use Rattle.tool.specs.declared.ToolState.{ToolState}
+use Rattle.arrival.specs.declared.Request.{Request}
+use Rattle.arrival.specs.declared.ToolState.{ToolState}
 use Rattle.tool.specs.declared.ToolStep.{ToolStep}
-use Rattle.tool.specs.declared.Meaning.{Meaning}
-use Rattle.tool.specs.declared.Arrival.{Arrival}
-use Rattle.tool.specs.State.{heldMost, isTransfer, isWaiting, possible}
-use Rattle.tool.specs.Event.{newBytes, arrivalBytes, arrivalOf, takes, roomAfter}
+use Rattle.arrival.specs.declared.Meaning.{Meaning}
+use Rattle.arrival.specs.declared.Arrival.{Arrival}
+use Rattle.arrival.specs.State.{heldMost, isTransfer, isWaiting, possible}
+use Rattle.arrival.specs.Meaning.{newBytes, arrivalBytes, arrivalOf}
+use Rattle.tool.specs.After.{takes, roomAfter}
 use Rattle.tool.specs.Call.{requestNumber, beginNumber, eventNumber, eventResult, eventOut, eventRoom, arrivalResult, arrivalRoom, arrivalOut}
-use Rattle.tool.proofs.StateLaws.{waiting-transfer}
-use Rattle.tool.proofs.RoomLaws.{fits-in-room, fits-in-most}
-use Rattle.tool.proofs.EventLaws.{Taken, taken}
+use Rattle.arrival.proofs.StateLaws.{waiting-transfer}
+use Rattle.arrival.proofs.RoomLaws.{fits-in-room, fits-in-most}
+use Rattle.tool.proofs.TakenLaws.{Taken, taken}
 
 -- The number of a begin
 

@@ -11,15 +11,16 @@ use Rattle.frame.specs.declared.Addresses.{Addresses}
 use Rattle.catalog.specs.Name.{nameNumber}
 use Rattle.catalog.specs.declared.AnswerName.{AnswerName}
 use Rattle.split.specs.Codes.{sub}
-use Rattle.tool.specs.declared.Request.{Request}
-use Rattle.tool.specs.declared.Outcome.the-variants.{Waiting}
-use Rattle.tool.specs.declared.ToolState.{ToolState}
+use Rattle.arrival.specs.declared.Request.{Request}
+use Rattle.arrival.specs.declared.Outcome.the-variants.{Waiting}
+use Rattle.arrival.specs.declared.ToolState.{ToolState}
 use Rattle.tool.specs.declared.ToolStep.{ToolStep}
-use Rattle.tool.specs.declared.Meaning.{Meaning}
-use Rattle.tool.specs.declared.Meaning.the-variants.{FailedWait}
-use Rattle.tool.specs.State.{isTransfer, isWaiting, possible}
+use Rattle.arrival.specs.declared.Meaning.{Meaning}
+use Rattle.arrival.specs.declared.Meaning.the-variants.{FailedWait}
+use Rattle.arrival.specs.State.{isTransfer, isWaiting, possible}
 use Rattle.tool.specs.Sent.{frameSent}
-use Rattle.tool.specs.Event.{arrivalMeaning, arrivalBytes, stateAfter, sentAfter, roomAfter}
+use Rattle.arrival.specs.Meaning.{arrivalMeaning, arrivalBytes}
+use Rattle.tool.specs.After.{stateAfter, sentAfter, roomAfter}
 
 -- Begin
 

@@ -1,9 +1,9 @@
 // The tool's calls: begin, arrival and wait's end, with the refusals in order.
-use crate::Meaning;
-use crate::Outcome;
-use crate::Request;
-use crate::ToolState;
 use crate::ToolStep;
+use arrival::Meaning;
+use arrival::Outcome;
+use arrival::Request;
+use arrival::ToolState;
 use catalog::AnswerName;
 use octets::numbers::BUFFER_SHORT;
 use octets::numbers::NOT_IN_TABLE;
@@ -15,8 +15,8 @@ ghost use mathlib.Core.Bool.{true};
 ghost use Prim.Native.Nat.{_+_, _≤_};
 ghost use lib.ListN.{length};
 ghost use Rattle.frame.specs.Frame.{lab};
-ghost use Rattle.tool.specs.State.{heldMost, isTransfer};
-ghost use Rattle.tool.specs.Event.{takes};
+ghost use Rattle.arrival.specs.State.{heldMost, isTransfer};
+ghost use Rattle.tool.specs.After.{takes};
 ghost use Rattle.tool.specs.Call.{requestNumber, beginNumber, begun, beginResult, beginOut};
 ghost use Rattle.tool.specs.Call.{eventNumber, eventResult, eventOut};
 ghost use Rattle.tool.specs.Call.{arrivalResult, arrivalRoom, arrivalOut, waitResult, waitOut};
@@ -24,7 +24,7 @@ ghost use Rattle.tool.specs.Call.{arrivalResult, arrivalRoom, arrivalOut
 fn request_number(request: Request, name: AnswerName) -> u8
     ensures { λ r. ⌜ r ≡ requestNumber request name ⌝ }
 {
-    if crate::state::is_transfer(request) {
+    if arrival::state::is_transfer(request) {
         return catalog::name_number(name);
     }
     if name.trep != 0 {
@@ -44,7 +44,7 @@ fn begin_number(state: ToolState, request: Request, name: AnswerName, out_len: u
     if number != 0 {
         return number;
     }
-    if crate::state::is_waiting(outcome) {
+    if arrival::state::is_waiting(outcome) {
         return OUT_OF_TURN;
     }
     if out_len < FRAME_MOST {
@@ -92,10 +92,10 @@ fn event_number(state: ToolState, room_len: usize, out_len: usize) -> u8
     ensures { λ r. ⌜ r ≡ eventNumber state «room_len» «out_len» ⌝ }
 {
     let outcome = state.outcome;
-    if !crate::state::is_waiting(outcome) {
+    if !arrival::state::is_waiting(outcome) {
         return OUT_OF_TURN;
     }
-    if !crate::state::possible(state, room_len) {
+    if !arrival::state::possible(state, room_len) {
         return OUT_OF_TURN;
     }
     if out_len < FRAME_MOST {
@@ -141,7 +141,7 @@ pub fn arrival_step(state: ToolState, frame: &[u8], room_len: usize, out: &mut [
     ensures { λ r. ⌜ r ≡ arrivalResult lab state (now (frame .entry)) «room_len» (length (now (out .entry))) ⌝ }
     ensures { λ _. ⌜ now (out .exit) ≡ arrivalOut lab state (now (frame .entry)) «room_len» (now (out .entry)) ⌝ }
 {
-    let arrival = crate::event::arrival(state, frame, room_len);
+    let arrival = arrival::event::arrival_of(state, frame, room_len);
     let meaning = arrival.meaning;
     event_step(state, meaning, arrival.new, room_len, out)
 }
@@ -152,7 +152,7 @@ pub fn arrived(state: ToolState, frame: &[u8], room: &mut [u8], out: &mut [u8]) 
     ensures { λ _. ⌜ now (room .exit) ≡ arrivalRoom lab state (now (frame .entry)) (length (now (out .entry))) (now (room .entry)) ⌝ }
     ensures { λ _. ⌜ now (out .exit) ≡ arrivalOut lab state (now (frame .entry)) (length (now (room .entry))) (now (out .entry)) ⌝ }
 {
-    let arrival = crate::event::arrival(state, frame, room.len());
+    let arrival = arrival::event::arrival_of(state, frame, room.len());
     let meaning = arrival.meaning;
     let received = arrival.received;
     let place = arrival.place;

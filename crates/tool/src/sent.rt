@@ -1,34 +1,24 @@
-// The frames that the tool sends, and the replies that it waits for.
-use crate::Request;
+// The frames that the tool sends.
+use arrival::Request;
 use catalog::AnswerName;
 use frame::End;
 use frame::messages::EXIT;
-use frame::messages::EXITED;
 use frame::messages::SESSION;
-use frame::messages::SESSION_OPENED;
-use frame::messages::STARTED;
 use frame::messages::STOP;
-use frame::messages::STOPPED;
 use frame::messages::UPLOAD;
-use frame::messages::UPLOAD_GRANTED;
 use octets::wire::ACKNOWLEDGE;
 use octets::wire::ANSWER;
-use octets::wire::DIAGNOSTIC_SESSION;
-use octets::wire::REQUEST_UPLOAD;
-use octets::wire::START_COMMUNICATION;
-use octets::wire::STOP_COMMUNICATION;
 use octets::wire::TRANSFER_DATA;
-use octets::wire::TRANSFER_EXIT;
 use split::AckCode;
 use split::SubMessage;
 ghost use mathlib.Core.Path.{_≡_};
 ghost use Prim.Native.Nat.{_-_, _≤_};
 ghost use lib.ListN.{length};
-ghost use Rattle.octets.specs.Buffer.{front, sameBytes};
+ghost use Rattle.octets.specs.Buffer.{front};
 ghost use Rattle.frame.specs.Frame.{lab, frameOf};
 ghost use Rattle.frame.specs.declared.End.the-variants as ends;
 ghost use Rattle.split.specs.Codes.{sub};
-ghost use Rattle.tool.specs.Sent.{transferRequest, acknowledgement, transferData, frameSent, sidSent, replyWanted};
+ghost use Rattle.tool.specs.Sent.{transferRequest, acknowledgement, transferData, frameSent};
 
 // Each writer answers the length of the frame, which stands at the front of `out`; 260 bytes are enough for every frame.
 fn write_data(data: &[u8], out: &mut [u8]) -> usize
@@ -118,39 +108,5 @@ pub(crate) fn write_request(
         Request::Exit => write_data(&EXIT, out),
         Request::Stop => write_data(&STOP, out),
         Request::Transfer => write_transfer(name, expected, out),
-    }
-}
-
-// The SID that a refusal of the last frame names.
-pub(crate) fn sid_sent(request: Request, expected: SubMessage) -> u8
-    ensures { λ r. ⌜ r ≡ sidSent request (expected .0) ⌝ }
-{
-    match request {
-        Request::Start => START_COMMUNICATION,
-        Request::Session => DIAGNOSTIC_SESSION,
-        Request::Upload => REQUEST_UPLOAD,
-        Request::Exit => TRANSFER_EXIT,
-        Request::Stop => STOP_COMMUNICATION,
-        Request::Transfer => {
-            if expected.0 == 1 {
-                TRANSFER_DATA
-            } else {
-                ACKNOWLEDGE
-            }
-        }
-    }
-}
-
-// Whether the data is the reply to a fixed request, byte by byte; a transfer has no such reply.
-pub(crate) fn is_reply(request: Request, data: &[u8]) -> bool
-    ensures { λ r. ⌜ r ≡ sameBytes (now («data» .entry)) (replyWanted request) ⌝ }
-{
-    match request {
-        Request::Start => octets::buffer::same(data, &STARTED),
-        Request::Session => octets::buffer::same(data, &SESSION_OPENED),
-        Request::Upload => octets::buffer::same(data, &UPLOAD_GRANTED),
-        Request::Exit => octets::buffer::same(data, &EXITED),
-        Request::Stop => octets::buffer::same(data, &STOPPED),
-        Request::Transfer => octets::buffer::same(data, b""),
     }
 }

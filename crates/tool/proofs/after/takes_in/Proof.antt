@@ -1,5 +1,5 @@
 -- One flag for each meaning.
-use Rattle.tool.specs.Event.{takes}
+use Rattle.tool.specs.After.{takes}
 use Rattle.tool.proofs.AfterLaws.{takes-at}
 use borrow.Author.Needs.{needs}
 use Rattle.tool.proofs.after.takes_in.Statement.{statement}

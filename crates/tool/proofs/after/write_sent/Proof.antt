@@ -1,5 +1,5 @@
 -- One frame or none for each meaning.
-use Rattle.tool.specs.Event.{sentAfter, takes}
+use Rattle.tool.specs.After.{sentAfter, takes}
 use Rattle.tool.proofs.AfterLaws.{sent-at-length, sent-at-front, front-none, taken-next, third-length, third-front, again-length, again-front, stop-length, stop-front}
 use borrow.Author.Needs.{needs}
 use Rattle.tool.proofs.after.write_sent.Statement.{statement}

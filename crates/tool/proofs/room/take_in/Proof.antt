@@ -20,6 +20,7 @@ take-in-spec =
     (λ c. search all)
     (λ c. simp length-take (omega arith))
     (λ c κs. search all)
-    (λ c κs. new-fits _ _ _ _ _ (c .before .before .before .before .before .header-length .ensures .0) (c .carried .ensures) _ (search (needs, flag-nt)) _ (c .before .before .before .before .before .before .before .before .before .before .pre))
+    (λ c κs. new-fits _ _ _ _ _ (c .before .before .before .before .before .header-length .ensures .0) (c .carried .ensures) _ (search (needs, flag-nt)) _
+    (c .before .before .before .before .before .before .before .before .before .pre))
     (λ c. search all)
     (λ c. search all))
