@@ -20,7 +20,8 @@ use Rattle.arrival.specs.declared.Meaning.{Meaning}
 use Rattle.arrival.specs.declared.Meaning.the-variants.{Ignored, FailedWait, Confirmed}
 use Rattle.arrival.specs.State.{isTransfer}
 use Rattle.arrival.specs.Replies.{sidSent, replyWanted}
-use Rattle.arrival.specs.Meaning.{newBytes, fits, meaningOf, receivedBy, transferMeaning, isRefusal, refusalMeaning, dataMeaning, arrivalMeaning, arrivalBytes, arrivalOf}
+use Rattle.arrival.specs.Meaning.{newBytes, fits, meaningOf, receivedBy, transferMeaning, isRefusal, refusalMeaning, dataMeaning, arrivalMeaning}
+use Rattle.arrival.specs.Meaning.{arrivalBytes, arrivalOf}
 
 -- "the SID last sent", and the reply, for each request
 
@@ -59,7 +60,8 @@ module _ (roomLen : ℕ) (t : ToolState) (d : List ℕ) where
   data-refusal r code h c e = rw (h, ← c) e
 
   module _ (h : isRefusal t d ≡ false) where
-    pub data-transfer : (x : Received) (n : ℕ) (f : Bool) (r : Meaning) → isTransfer (t .request) ≡ true → x ≡ receivedBy t d → n ≡ length (newBytes t x d) → f ≡ fits roomLen t n → r ≡ meaningOf x f
+    pub data-transfer : (x : Received) (n : ℕ) (f : Bool) (r : Meaning) → isTransfer (t .request) ≡ true → x ≡ receivedBy t d → n ≡ length (newBytes t x d)
+        → f ≡ fits roomLen t n → r ≡ meaningOf x f
         → r ≡ dataMeaning roomLen t d
     unfolding dataMeaning transferMeaning
     data-transfer x n f r q e p k m = rw (h, q, ← e, ← p, ← k) m
@@ -74,7 +76,8 @@ module _ (roomLen : ℕ) (t : ToolState) (d : List ℕ) where
 
 -- A string b that arrives: its data d lies at the place p, is x of the answer and adds n bytes
 
-module _ (a : Addresses) (roomLen : ℕ) (t : ToolState) (b d : List ℕ) (p : Place) (x : Received) (n : ℕ) (located : p ≡ dataPlace a ends.Tool b) (part : d ≡ partAt (p .start) (p .len) b)
+module _ (a : Addresses) (roomLen : ℕ) (t : ToolState) (b d : List ℕ) (p : Place) (x : Received) (n : ℕ) (located : p ≡ dataPlace a ends.Tool b)
+    (part : d ≡ partAt (p .start) (p .len) b)
     (received : x ≡ receivedAs (t .name .trep) (t .expected .0) d) (adds : n ≡ length (newBytes t x d)) where
   data-is : d ≡ dataOf a ends.Tool b
   unfolding dataOf
@@ -84,7 +87,8 @@ module _ (a : Addresses) (roomLen : ℕ) (t : ToolState) (b d : List ℕ) (p : P
   unfolding dataPlace
   number-is = ap (λ (q : Place). q .number) located
 
-  arrives : (m : Meaning) → m ≡ arrivalMeaning a roomLen t b → _≡_ {A = Arrival} (record { place = p; received = x; new = n; meaning = m }) (arrivalOf a roomLen t b)
+  arrives : (m : Meaning) → m ≡ arrivalMeaning a roomLen t b
+      → _≡_ {A = Arrival} (record { place = p; received = x; new = n; meaning = m }) (arrivalOf a roomLen t b)
   unfolding arrivalOf arrivalBytes
   arrives m e = rw (← located, ← data-is, ← received, ← adds, ← e)
 
@@ -92,6 +96,7 @@ module _ (a : Addresses) (roomLen : ℕ) (t : ToolState) (b d : List ℕ) (p : P
   unfolding arrivalMeaning
   arrival-refused h = arrives FailedWait (rw (← number-is, ne-eqb (p .number) 0 h))
 
-  pub arrival-good : (m : Meaning) → p .number ≡ 0 → m ≡ dataMeaning roomLen t d → _≡_ {A = Arrival} (record { place = p; received = x; new = n; meaning = m }) (arrivalOf a roomLen t b)
+  pub arrival-good : (m : Meaning) → p .number ≡ 0 → m ≡ dataMeaning roomLen t d
+      → _≡_ {A = Arrival} (record { place = p; received = x; new = n; meaning = m }) (arrivalOf a roomLen t b)
   unfolding arrivalMeaning
   arrival-good m h e = arrives m (rw (← number-is, h, ← data-is) e)

@@ -64,7 +64,8 @@ module _ (roomLen : ℕ) (t : ToolState) where
     unfolding possible
     possible-fixed l h f = rw (w, le-leb 1 (t .sendings) l, le-leb (t .sendings) 3 h, f)
 
-    pub possible-transfer : (r : Bool) → 1 ≤ t .sendings → t .sendings ≤ 3 → isTransfer (t .request) ≡ true → r ≡ transferPossible roomLen t → r ≡ possible roomLen t
+    pub possible-transfer : (r : Bool) → 1 ≤ t .sendings → t .sendings ≤ 3 → isTransfer (t .request) ≡ true → r ≡ transferPossible roomLen t
+        → r ≡ possible roomLen t
     unfolding possible
     possible-transfer r l h f q = rw (w, le-leb 1 (t .sendings) l, le-leb (t .sendings) 3 h, f) q
 
@@ -93,7 +94,8 @@ sent-and-fits true true p e q = e
 sent-and-fits false f p e q = never (cc)
 sent-and-fits true false p e q = never (cc)
 
-pub waiting-transfer : (roomLen : ℕ) (t : ToolState) → isWaiting (t .outcome) ≡ true → possible roomLen t ≡ true → isTransfer (t .request) ≡ true → WaitingTransfer roomLen t
+pub waiting-transfer : (roomLen : ℕ) (t : ToolState) → isWaiting (t .outcome) ≡ true → possible roomLen t ≡ true → isTransfer (t .request) ≡ true
+    → WaitingTransfer roomLen t
 unfolding possible transferPossible
 waiting-transfer roomLen t w p f =
     let x : transferPossible roomLen t ≡ true = sent-and-fits (leb 1 (t .sendings) && leb (t .sendings) 3) _ _ (rw w at p) f in

@@ -15,7 +15,9 @@ use Rattle.split.specs.declared.Received.the-variants.{Whole, Full, Last, Above
 use Rattle.arrival.specs.declared.ToolState.{ToolState}
 use Rattle.arrival.specs.declared.Meaning.{Meaning}
 use Rattle.arrival.specs.declared.Arrival.{Arrival}
-use Rattle.arrival.specs.declared.Meaning.the-variants.{Ignored, FailedWait, Confirmed, WholeAnswer, SubMessageTaken, LastTaken, NoRoomForAnswer, NoRoomForSubMessage, RefusedBy}
+use Rattle.arrival.specs.declared.Meaning.the-variants.{Ignored, FailedWait, Confirmed, WholeAnswer}
+use Rattle.arrival.specs.declared.Meaning.the-variants.{SubMessageTaken, LastTaken, NoRoomForAnswer}
+use Rattle.arrival.specs.declared.Meaning.the-variants.{NoRoomForSubMessage, RefusedBy}
 use Rattle.arrival.specs.State.{heldMost, isTransfer}
 use Rattle.arrival.specs.Replies.{sidSent, replyWanted}
 
@@ -67,7 +69,7 @@ unfoldable pub arrivalMeaning : Addresses → ℕ → ToolState → List ℕ →
 arrivalMeaning a roomLen t b =
     changedBy (judged a ends.Tool b) (dataMeaning roomLen t (dataOf a ends.Tool b)) FailedWait
 
--- the bytes that it adds to the held ones
+-- the bytes that it adds to the held ones where it is taken
 unfoldable pub arrivalBytes : Addresses → ToolState → List ℕ → List ℕ
 arrivalBytes a t b = newBytes t (receivedBy t (dataOf a ends.Tool b)) (dataOf a ends.Tool b)
 

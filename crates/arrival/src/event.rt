@@ -10,7 +10,8 @@ ghost use mathlib.Core.Path.{_≡_};
 ghost use mathlib.Core.Bool.{cond};
 ghost use lib.ListN.{length};
 ghost use Rattle.frame.specs.Frame.{lab};
-ghost use Rattle.arrival.specs.Meaning.{newBytes, receivedBy, meaningOf, isRefusal, refusalMeaning, dataMeaning, arrivalOf};
+ghost use Rattle.arrival.specs.Meaning.{newBytes, receivedBy, meaningOf};
+ghost use Rattle.arrival.specs.Meaning.{isRefusal, refusalMeaning, dataMeaning, arrivalOf};
 
 fn is_refusal(state: ToolState, data: &[u8]) -> bool
     ensures { λ r. ⌜ r ≡ isRefusal state (now («data» .entry)) ⌝ }
@@ -82,7 +83,8 @@ fn data_meaning(
     }
 }
 
-// A string that arrives, with a room of this length: it is judged once. One that the frame rules refuse is a failed wait.
+// A string that arrives, with a room of this length: it is judged once.
+// One that the frame rules refuse is a failed wait.
 pub fn arrival_of(state: ToolState, frame: &[u8], room_len: usize) -> Arrival
     ensures { λ r. ⌜ r ≡ arrivalOf lab «room_len» state (now (frame .entry)) ⌝ }
 {

@@ -30,7 +30,8 @@ pub enum Outcome {
     Refused(u8),
 }
 
-// The request with its TREP and day, how it stands, the sendings of its last frame, the sub message expected and the bytes held.
+// The request with its TREP and day, how it stands, the sendings of its last frame, the sub message expected and the
+// bytes held.
 pub struct ToolState {
     pub request: Request,
     pub outcome: Outcome,
@@ -61,8 +62,8 @@ pub enum Meaning {
     RefusedBy(u8),
 }
 
-// A string that arrives: where its data lies, what that is of the answer, how many bytes it adds to those held where it is taken, and
-// what it means.
+// A string that arrives: where its data lies, what that is of the answer, how many bytes it adds to those held where it
+// is taken, and what it means.
 pub struct Arrival {
     pub place: Place,
     pub received: Received,

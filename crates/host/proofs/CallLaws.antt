@@ -26,9 +26,11 @@ use Rattle.arrival.specs.declared.Meaning.{Meaning}
 use Rattle.arrival.specs.declared.ToolState.{ToolState}
 use Rattle.tool.specs.declared.ToolStep.{ToolStep}
 use Rattle.arrival.specs.State as tool-state
-use Rattle.tool.specs.Call.{requestNumber, beginNumber, beginResult, beginOut, eventNumber, eventResult, arrivalResult, arrivalRoom, arrivalOut, waitResult, waitOut}
+use Rattle.tool.specs.Call.{requestNumber, beginNumber, beginResult, beginOut, eventNumber, eventResult, arrivalResult, arrivalRoom, arrivalOut, waitResult}
+use Rattle.tool.specs.Call.{waitOut}
 use Rattle.host.specs.Packed.{packedUnit, isUnit, noUnit, unpackedUnit, requestFrom, packedTool, isTool, noTool, unpackedTool}
-use Rattle.host.specs.Calls.{unitFreshNumber, unitFreshState, unitHanded, unitKept, unitStep, unitStepReply, toolFreshNumber, toolFreshState, toolHanded, toolKept, toolBegin, toolBeginOut, toolArrival, toolArrivalRoom, toolArrivalOut, toolWait, toolWaitOut}
+use Rattle.host.specs.Calls.{unitFreshNumber, unitFreshState, unitHanded, unitKept, unitStep, unitStepReply, toolFreshNumber, toolFreshState, toolHanded}
+use Rattle.host.specs.Calls.{toolKept, toolBegin, toolBeginOut, toolArrival, toolArrivalRoom, toolArrivalOut, toolWait, toolWaitOut}
 use Rattle.host.proofs.UnitLaws.{length-unit, unit-none, unit-size}
 use Rattle.host.proofs.ToolLaws.{length-tool, tool-none, tool-size}
 
@@ -46,17 +48,20 @@ turn-taken false n before size b state none z = absurd (let e = or-zero before 1
 -- The unit
 
 -- bytes that are no state: "5, 11", whatever follows
-pub unit-impossible : (store : List ℕ) (room : ℕ) (b f : List ℕ) → isUnit b ≡ false → unitNumber lab store room (unpackedUnit b) f ≡ orElse (storeNumber narrow store) 11
+pub unit-impossible : (store : List ℕ) (room : ℕ) (b f : List ℕ) → isUnit b ≡ false
+    → unitNumber lab store room (unpackedUnit b) f ≡ orElse (storeNumber narrow store) 11
 unfolding unitNumber numberBefore unit-state.possible unit-state.possibleAt
 unit-impossible store room b f h =
     rw (← unit-none b noUnit h refl) (or-refused (storeNumber narrow store) 11 (judged lab ends.Unit f) refl)
 
-pub step-state : (step : UnitReply) (u : UnitState) (store : List ℕ) (room : ℕ) (b f p : List ℕ) → u ≡ unpackedUnit b → step ≡ unitResult lab store room u f → p ≡ packedUnit (step .state) → step .number ≡ 0
+pub step-state : (step : UnitReply) (u : UnitState) (store : List ℕ) (room : ℕ) (b f p : List ℕ) → u ≡ unpackedUnit b → step ≡ unitResult lab store room u f
+    → p ≡ packedUnit (step .state) → step .number ≡ 0
     → length b ≡ length p
 unfolding unitResult
 step-state step u store room b f p e q k n =
     rw (k, length-unit (step .state))
-    (turn-taken (isUnit b) (unitNumber lab store room (unpackedUnit b) f) (storeNumber narrow store) 11 b (unit-size b) (unit-impossible store room b f) (rw (← e) (ap (λ (s : UnitReply). s .number) (sym q) ∙ n)))
+    (turn-taken (isUnit b) (unitNumber lab store room (unpackedUnit b) f) (storeNumber narrow store) 11 b (unit-size b) (unit-impossible store room b f)
+    (rw (← e) (ap (λ (s : UnitReply). s .number) (sym q) ∙ n)))
 
 -- a step on the state u that the bytes are
 module _ (b : List ℕ) (u : UnitState) (e : u ≡ unpackedUnit b) (store f : List ℕ) where
@@ -95,7 +100,8 @@ module _ (kind : ℕ) (b : List ℕ) where
     unfolding unitFreshNumber
     fresh-good h = rw (lt-ltb kind 3 k, le-leb 11 (length b) h)
 
-    pub fresh-good-packed : (u : UnitState) (p b′ : List ℕ) → 11 ≤ length b → u ≡ unit-state.freshUnit kind → p ≡ packedUnit u → b′ ≡ copied p b → b′ ≡ unitFreshState kind b
+    pub fresh-good-packed : (u : UnitState) (p b′ : List ℕ) → 11 ≤ length b → u ≡ unit-state.freshUnit kind → p ≡ packedUnit u → b′ ≡ copied p b
+        → b′ ≡ unitFreshState kind b
     unfolding unitFreshNumber unitFreshState
     fresh-good-packed u p b′ h e i q =
         rw (lt-ltb kind 3 k, le-leb 11 (length b) h, ← e, ← i) (q ∙ copied-fits p b (omega (arith, ap length i, length-unit u)))
@@ -103,45 +109,50 @@ module _ (kind : ℕ) (b : List ℕ) where
 -- The tool
 
 -- bytes that are no state: "12, 11" at a begin, 11 at an event, whatever follows
-pub begin-impossible : (request : Request) (name : AnswerName) (out : ℕ) (b : List ℕ) → isTool b ≡ false → beginNumber (unpackedTool b) request name out ≡ orElse (requestNumber request name) 11
+pub begin-impossible : (request : Request) (name : AnswerName) (out : ℕ) (b : List ℕ) → isTool b ≡ false
+    → beginNumber (unpackedTool b) request name out ≡ orElse (requestNumber request name) 11
 unfolding beginNumber
 begin-impossible request name out b h = rw (← tool-none b noTool h refl)
 
-pub event-impossible : (room out : ℕ) (b : List ℕ) → isTool b ≡ false → eventNumber (unpackedTool b) room out ≡ 11
+pub event-impossible : (roomLen outLen : ℕ) (b : List ℕ) → isTool b ≡ false → eventNumber (unpackedTool b) roomLen outLen ≡ 11
 unfolding eventNumber tool-state.possible
-event-impossible room out b h = rw (← tool-none b noTool h refl)
+event-impossible roomLen outLen b h = rw (← tool-none b noTool h refl)
 
-pub begin-state : (step : ToolStep) (t : ToolState) (request : Request) (name : AnswerName) (out : ℕ) (b p : List ℕ) → t ≡ unpackedTool b → step ≡ beginResult lab t request name out → p ≡ packedTool (step .state) → step .number ≡ 0
+pub begin-state : (step : ToolStep) (t : ToolState) (request : Request) (name : AnswerName) (out : ℕ) (b p : List ℕ) → t ≡ unpackedTool b
+    → step ≡ beginResult lab t request name out → p ≡ packedTool (step .state) → step .number ≡ 0
     → length b ≡ length p
 unfolding beginResult
 begin-state step t request name out b p e q k n =
     rw (k, length-tool (step .state))
-    (turn-taken (isTool b) (beginNumber (unpackedTool b) request name out) (requestNumber request name) 15 b (tool-size b) (begin-impossible request name out b) (rw (← e) (ap (λ (s : ToolStep). s .number) (sym q) ∙ n)))
+    (turn-taken (isTool b) (beginNumber (unpackedTool b) request name out) (requestNumber request name) 15 b (tool-size b) (begin-impossible request name out b)
+    (rw (← e) (ap (λ (s : ToolStep). s .number) (sym q) ∙ n)))
 
-pub event-state : (step : ToolStep) (t : ToolState) (m : Meaning) (new room out : ℕ) (b p : List ℕ) → t ≡ unpackedTool b → step ≡ eventResult lab t m new room out → p ≡ packedTool (step .state) → step .number ≡ 0
+pub event-state : (step : ToolStep) (t : ToolState) (m : Meaning) (new roomLen outLen : ℕ) (b p : List ℕ) → t ≡ unpackedTool b
+    → step ≡ eventResult lab t m new roomLen outLen → p ≡ packedTool (step .state) → step .number ≡ 0
     → length b ≡ length p
 unfolding eventResult
-event-state step t m new room out b p e q k n =
+event-state step t m new roomLen outLen b p e q k n =
     rw (k, length-tool (step .state))
-    (turn-taken (isTool b) (eventNumber (unpackedTool b) room out) 0 15 b (tool-size b) (event-impossible room out b) (rw (← e) (ap (λ (s : ToolStep). s .number) (sym q) ∙ n)))
+    (turn-taken (isTool b) (eventNumber (unpackedTool b) roomLen outLen) 0 15 b (tool-size b) (event-impossible roomLen outLen b)
+    (rw (← e) (ap (λ (s : ToolStep). s .number) (sym q) ∙ n)))
 
 -- an event on the state t that the bytes are
 module _ (b : List ℕ) (t : ToolState) (e : t ≡ unpackedTool b) (step : ToolStep) where
-  module _ (f : List ℕ) (room out : ℕ) (q : step ≡ arrivalResult lab t f room out) where
-    pub arrival-handed : (w : Written) → w ≡ record { number = step .number; len = step .len } → w ≡ toolHanded (toolArrival b f room out)
+  module _ (f : List ℕ) (roomLen outLen : ℕ) (q : step ≡ arrivalResult lab t f roomLen outLen) where
+    pub arrival-handed : (w : Written) → w ≡ record { number = step .number; len = step .len } → w ≡ toolHanded (toolArrival b f roomLen outLen)
     unfolding toolHanded
     arrival-handed w k = rw (← e, ← q) k
 
-    pub arrival-kept : (p b′ : List ℕ) → p ≡ packedTool (step .state) → b′ ≡ changedBy (step .number) p b → b′ ≡ toolKept (toolArrival b f room out) b
+    pub arrival-kept : (p b′ : List ℕ) → p ≡ packedTool (step .state) → b′ ≡ changedBy (step .number) p b → b′ ≡ toolKept (toolArrival b f roomLen outLen) b
     unfolding toolKept
     arrival-kept p b′ i k = rw (← e, ← q, ← i) k
 
-  module _ (room out : ℕ) (q : step ≡ waitResult lab t room out) where
-    pub wait-handed : (w : Written) → w ≡ record { number = step .number; len = step .len } → w ≡ toolHanded (toolWait b room out)
+  module _ (roomLen outLen : ℕ) (q : step ≡ waitResult lab t roomLen outLen) where
+    pub wait-handed : (w : Written) → w ≡ record { number = step .number; len = step .len } → w ≡ toolHanded (toolWait b roomLen outLen)
     unfolding toolHanded
     wait-handed w k = rw (← e, ← q) k
 
-    pub wait-kept : (p b′ : List ℕ) → p ≡ packedTool (step .state) → b′ ≡ changedBy (step .number) p b → b′ ≡ toolKept (toolWait b room out) b
+    pub wait-kept : (p b′ : List ℕ) → p ≡ packedTool (step .state) → b′ ≡ changedBy (step .number) p b → b′ ≡ toolKept (toolWait b roomLen outLen) b
     unfolding toolKept
     wait-kept p b′ i k = rw (← e, ← q, ← i) k
 
@@ -175,11 +186,13 @@ module _ (b : List ℕ) (request : ℕ) (name : AnswerName) where
     unfolding toolBegin
     begun-by step out s = rw (le-leb request 5 h, ← e, ← q) s
 
-    pub begin-handed : (step : ToolStep) (out : ℕ) (w : Written) → step ≡ beginResult lab t r name out → w ≡ record { number = step .number; len = step .len } → w ≡ toolHanded (toolBegin b request name out)
+    pub begin-handed : (step : ToolStep) (out : ℕ) (w : Written) → step ≡ beginResult lab t r name out → w ≡ record { number = step .number; len = step .len }
+        → w ≡ toolHanded (toolBegin b request name out)
     unfolding toolHanded
     begin-handed step out w s k = rw (← begun-by step out s) k
 
-    pub begin-kept : (step : ToolStep) (out : ℕ) (p b′ : List ℕ) → step ≡ beginResult lab t r name out → p ≡ packedTool (step .state) → b′ ≡ changedBy (step .number) p b → b′ ≡ toolKept (toolBegin b request name out) b
+    pub begin-kept : (step : ToolStep) (out : ℕ) (p b′ : List ℕ) → step ≡ beginResult lab t r name out → p ≡ packedTool (step .state)
+        → b′ ≡ changedBy (step .number) p b → b′ ≡ toolKept (toolBegin b request name out) b
     unfolding toolKept
     begin-kept step out p b′ s i k = rw (← begun-by step out s, ← i) k
 

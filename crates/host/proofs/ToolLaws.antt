@@ -74,8 +74,9 @@ module _ (b : List ℕ) where
 -- Packing
 
 pub tool-packed : (t : ToolState) (x y code : ℕ) → x ≡ requestByte (t .request) → y ≡ outcomeByte (t .outcome) → code ≡ codeByte (t .outcome)
-    → x ∷ y ∷ code ∷ t .name .trep ∷ t .name .day / 256 / 256 / 256 % 256 ∷ t .name .day / 256 / 256 % 256 ∷ t .name .day / 256 % 256 ∷ t .name .day % 256 ∷ t .sendings
-    ∷ t .expected .0 / 256 % 256 ∷ t .expected .0 % 256
+    → x ∷ y ∷ code ∷ t .name .trep
+    ∷ t .name .day / 256 / 256 / 256 % 256 ∷ t .name .day / 256 / 256 % 256 ∷ t .name .day / 256 % 256 ∷ t .name .day % 256
+    ∷ t .sendings ∷ t .expected .0 / 256 % 256 ∷ t .expected .0 % 256
     ∷ t .held / 256 / 256 / 256 % 256 ∷ t .held / 256 / 256 % 256 ∷ t .held / 256 % 256 ∷ t .held % 256 ∷ []
     ≡ packedTool t
 unfolding packedTool
@@ -133,7 +134,14 @@ outcome-kept t = rw (tool-is t, outcome-back (t .outcome))
 pub tool-back : (t : ToolState) → t .name .day < 4294967296 → t .expected .0 < 65536 → t .held < 4294967296 → unpackedTool (packedTool t) ≡ t
 unfolding unpackedTool packedTool numberAt
 tool-back t d e h =
-    rw (tool-is t, request-back (t .request), outcome-back (t .outcome), number-of-bytes 4 (t .name .day) d, number-of-bytes 2 (t .expected .0) e, number-of-bytes 4 (t .held) h)
+    rw (
+      tool-is t,
+      request-back (t .request),
+      outcome-back (t .outcome),
+      number-of-bytes 4 (t .name .day) d,
+      number-of-bytes 2 (t .expected .0) e,
+      number-of-bytes 4 (t .held) h,
+    )
 
 -- Bytes that are a state are what it is packed as
 
@@ -177,9 +185,14 @@ tool-again b bytes h =
     let n = and-right (leb (getD b 0 0) 5) _ m in
     let o : getD b 1 0 ≤ 5 = leb-true _ _ (and-left (leb (getD b 1 0) 5) _ n) in
     let k = code-again (getD b 2 0) (getD b 1 0) o (and-right (leb (getD b 1 0) 5) _ n) in
-    let e : packedTool (unpackedTool b) ≡ getD b 0 0 ∷ getD b 1 0 ∷ getD b 2 0 ∷ getD b 3 0 ∷ (bytesOf 4 (numberAt 4 4 b) ++ (getD b 8 0 ∷ (bytesOf 2 (numberAt 2 9 b) ++ bytesOf 4 (numberAt 4 11 b)))) =
+    let e :
+    packedTool (unpackedTool b)
+    ≡ getD b 0 0 ∷ getD b 1 0 ∷ getD b 2 0 ∷ getD b 3 0
+    ∷ (bytesOf 4 (numberAt 4 4 b) ++ (getD b 8 0 ∷ (bytesOf 2 (numberAt 2 9 b) ++ bytesOf 4 (numberAt 4 11 b)))) =
     rw (h, request-again (getD b 0 0) r, outcome-again (getD b 2 0) (getD b 1 0) o, k) in
     e
-    ∙ ap (λ (x : List ℕ). getD b 0 0 ∷ getD b 1 0 ∷ getD b 2 0 ∷ getD b 3 0 ∷ (x ++ (getD b 8 0 ∷ (bytesOf 2 (numberAt 2 9 b) ++ bytesOf 4 (numberAt 4 11 b))))) (field-back 4 4 b bytes refl (omega arith))
-    ∙ ap₂ (λ (x y : List ℕ). getD b 0 0 ∷ getD b 1 0 ∷ getD b 2 0 ∷ getD b 3 0 ∷ getD b 4 0 ∷ getD b 5 0 ∷ getD b 6 0 ∷ getD b 7 0 ∷ getD b 8 0 ∷ (x ++ y)) (field-back 2 9 b bytes refl (omega arith)) (field-back 4 11 b bytes refl (omega arith))
+    ∙ ap (λ (x : List ℕ). getD b 0 0 ∷ getD b 1 0 ∷ getD b 2 0 ∷ getD b 3 0 ∷ (x ++ (getD b 8 0 ∷ (bytesOf 2 (numberAt 2 9 b) ++ bytesOf 4 (numberAt 4 11 b)))))
+    (field-back 4 4 b bytes refl (omega arith))
+    ∙ ap₂ (λ (x y : List ℕ). getD b 0 0 ∷ getD b 1 0 ∷ getD b 2 0 ∷ getD b 3 0 ∷ getD b 4 0 ∷ getD b 5 0 ∷ getD b 6 0 ∷ getD b 7 0 ∷ getD b 8 0 ∷ (x ++ y))
+    (field-back 2 9 b bytes refl (omega arith)) (field-back 4 11 b bytes refl (omega arith))
     ∙ spelled 15 b l

@@ -4,7 +4,7 @@ ghost use mathlib.Core.Path.{_≡_};
 ghost use lib.ListN.{length};
 ghost use Rattle.octets.specs.Numbers.{changedBy};
 
-// Number and length; the next state's bytes are kept only where nothing is refused, and then the state bytes are as many.
+// Number and length. The next state's bytes are kept only where nothing is refused; then the state bytes are as many.
 pub(crate) fn hand(number: u8, len: usize, next: &[u8], state: &mut [u8]) -> Written
     requires { ⌜ (number ≡ 0 → length (now state) ≡ length (now next)) ⌝ }
     ensures { λ r. ⌜ r ≡ record { number = number; len = len } ⌝ }

@@ -1,4 +1,5 @@
-// The calls for C hosts on numbers and byte slices (host/include/tacho.h). Every call is total; the states of unit and tool are packed bytes.
+// The calls for C hosts on numbers and byte slices (host/include/tacho.h). Every call is total; the states of unit and
+// tool are packed bytes.
 pub mod arrays;
 pub mod bench_store;
 pub mod frames;

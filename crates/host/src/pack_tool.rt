@@ -7,7 +7,8 @@ use octets::big_endian::byte_at;
 use octets::big_endian::number_at;
 use split::SubMessage;
 ghost use mathlib.Core.Path.{_≡_};
-ghost use Rattle.host.specs.Packed.{requestByte, requestFrom, outcomeByte, codeByte, outcomeFrom, packedTool, isTool, noTool, unpackedTool};
+ghost use Rattle.host.specs.Packed.{requestByte, requestFrom, outcomeByte, codeByte, outcomeFrom, packedTool};
+ghost use Rattle.host.specs.Packed.{isTool, noTool, unpackedTool};
 
 // The bytes of a packed state.
 pub(crate) const SIZE: usize = 15;

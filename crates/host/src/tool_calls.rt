@@ -5,7 +5,9 @@ use octets::numbers::BUFFER_SHORT;
 use octets::numbers::NOT_IN_TABLE;
 ghost use mathlib.Core.Path.{_≡_};
 ghost use lib.ListN.{length};
-ghost use Rattle.host.specs.Calls.{toolFreshNumber, toolFreshState, toolHanded, toolKept, toolBegin, toolBeginOut, toolArrival, toolArrivalRoom, toolArrivalOut, toolWait, toolWaitOut};
+ghost use Rattle.host.specs.Calls.{toolFreshNumber, toolFreshState, toolHanded, toolKept};
+ghost use Rattle.host.specs.Calls.{toolBegin, toolBeginOut, toolArrival, toolArrivalRoom, toolArrivalOut};
+ghost use Rattle.host.specs.Calls.{toolWait, toolWaitOut};
 
 // The state of a tool that has begun nothing. 4 for too few bytes.
 #[no_mangle]
@@ -29,9 +31,15 @@ pub extern "C" fn tacho_tool_begin(
     day: u32,
     out: &mut [u8],
 ) -> Written
-    ensures { λ r. ⌜ r ≡ toolHanded (toolBegin (now (state .entry)) request (record { trep = trep; day = day }) (length (now (out .entry)))) ⌝ }
-    ensures { λ _. ⌜ now (state .exit) ≡ toolKept (toolBegin (now (state .entry)) request (record { trep = trep; day = day }) (length (now (out .entry)))) (now (state .entry)) ⌝ }
-    ensures { λ _. ⌜ now (out .exit) ≡ toolBeginOut (now (state .entry)) request (record { trep = trep; day = day }) (now (out .entry)) ⌝ }
+    ensures { λ r. ⌜ r ≡
+        toolHanded
+        (toolBegin (now (state .entry)) request (record { trep = trep; day = day }) (length (now (out .entry)))) ⌝ }
+    ensures { λ _. ⌜ now (state .exit) ≡
+        toolKept
+        (toolBegin (now (state .entry)) request (record { trep = trep; day = day }) (length (now (out .entry))))
+        (now (state .entry)) ⌝ }
+    ensures { λ _. ⌜ now (out .exit) ≡
+        toolBeginOut (now (state .entry)) request (record { trep = trep; day = day }) (now (out .entry)) ⌝ }
 {
     if 5 < request {
         return Written {
@@ -54,10 +62,18 @@ pub extern "C" fn tacho_tool_arrived(
     room: &mut [u8],
     out: &mut [u8],
 ) -> Written
-    ensures { λ r. ⌜ r ≡ toolHanded (toolArrival (now (state .entry)) (now (frame .entry)) (length (now (room .entry))) (length (now (out .entry)))) ⌝ }
-    ensures { λ _. ⌜ now (state .exit) ≡ toolKept (toolArrival (now (state .entry)) (now (frame .entry)) (length (now (room .entry))) (length (now (out .entry)))) (now (state .entry)) ⌝ }
-    ensures { λ _. ⌜ now (room .exit) ≡ toolArrivalRoom (now (state .entry)) (now (frame .entry)) (length (now (out .entry))) (now (room .entry)) ⌝ }
-    ensures { λ _. ⌜ now (out .exit) ≡ toolArrivalOut (now (state .entry)) (now (frame .entry)) (length (now (room .entry))) (now (out .entry)) ⌝ }
+    ensures { λ r. ⌜ r ≡
+        toolHanded
+        (toolArrival (now (state .entry)) (now (frame .entry)) (length (now (room .entry))) (length (now (out .entry))))
+        ⌝ }
+    ensures { λ _. ⌜ now (state .exit) ≡
+        toolKept
+        (toolArrival (now (state .entry)) (now (frame .entry)) (length (now (room .entry))) (length (now (out .entry))))
+        (now (state .entry)) ⌝ }
+    ensures { λ _. ⌜ now (room .exit) ≡
+        toolArrivalRoom (now (state .entry)) (now (frame .entry)) (length (now (out .entry))) (now (room .entry)) ⌝ }
+    ensures { λ _. ⌜ now (out .exit) ≡
+        toolArrivalOut (now (state .entry)) (now (frame .entry)) (length (now (room .entry))) (now (out .entry)) ⌝ }
 {
     let was = crate::pack_tool::unpack(state);
     let step = tool::call::arrived(was, frame, room, out);
@@ -68,9 +84,13 @@ pub extern "C" fn tacho_tool_arrived(
 // The wait for a frame ended; the room is only looked at. Refused by 11 and 4, in this order.
 #[no_mangle]
 pub extern "C" fn tacho_tool_wait_ended(state: &mut [u8], room: &[u8], out: &mut [u8]) -> Written
-    ensures { λ r. ⌜ r ≡ toolHanded (toolWait (now (state .entry)) (length (now (room .entry))) (length (now (out .entry)))) ⌝ }
-    ensures { λ _. ⌜ now (state .exit) ≡ toolKept (toolWait (now (state .entry)) (length (now (room .entry))) (length (now (out .entry)))) (now (state .entry)) ⌝ }
-    ensures { λ _. ⌜ now (out .exit) ≡ toolWaitOut (now (state .entry)) (length (now (room .entry))) (now (out .entry)) ⌝ }
+    ensures { λ r. ⌜ r ≡
+        toolHanded (toolWait (now (state .entry)) (length (now (room .entry))) (length (now (out .entry)))) ⌝ }
+    ensures { λ _. ⌜ now (state .exit) ≡
+        toolKept (toolWait (now (state .entry)) (length (now (room .entry))) (length (now (out .entry))))
+        (now (state .entry)) ⌝ }
+    ensures { λ _. ⌜ now (out .exit) ≡
+        toolWaitOut (now (state .entry)) (length (now (room .entry))) (now (out .entry)) ⌝ }
 {
     let was = crate::pack_tool::unpack(state);
     let step = tool::call::wait_ended(was, room, out);

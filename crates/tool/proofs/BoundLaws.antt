@@ -15,7 +15,8 @@ use Rattle.arrival.specs.declared.Request.{Request}
 use Rattle.arrival.specs.declared.Outcome.the-variants.{NoAnswer}
 use Rattle.arrival.specs.declared.ToolState.{ToolState}
 use Rattle.arrival.specs.declared.Meaning.{Meaning}
-use Rattle.arrival.specs.declared.Meaning.the-variants.{Ignored, FailedWait, Confirmed, WholeAnswer, SubMessageTaken, LastTaken, NoRoomForAnswer, NoRoomForSubMessage, RefusedBy}
+use Rattle.arrival.specs.declared.Meaning.the-variants.{Ignored, FailedWait, Confirmed, WholeAnswer, SubMessageTaken, LastTaken, NoRoomForAnswer}
+use Rattle.arrival.specs.declared.Meaning.the-variants.{NoRoomForSubMessage, RefusedBy}
 use Rattle.arrival.specs.State.{heldMost}
 use Rattle.arrival.specs.Meaning.{arrivalMeaning, arrivalBytes}
 use Rattle.tool.specs.After.{takes, ended, waits, afterFailedWait, stateAfter}
@@ -71,7 +72,8 @@ module _ (t : ToolState) (fits : Fits t) where
   unfolding takes
   wait-fits roomLen outLen = event-fits FailedWait 0 roomLen outLen (λ z. after-fits FailedWait 0 (λ e. never (cc)) (λ e. never (cc)))
 
-  pub arrival-fits : (a : Addresses) (b : List ℕ) (roomLen outLen : ℕ) → Fits (eventState t (arrivalMeaning a roomLen t b) (length (arrivalBytes a t b)) roomLen outLen)
+  pub arrival-fits : (a : Addresses) (b : List ℕ) (roomLen outLen : ℕ)
+      → Fits (eventState t (arrivalMeaning a roomLen t b) (length (arrivalBytes a t b)) roomLen outLen)
   arrival-fits a b roomLen outLen =
       event-fits (arrivalMeaning a roomLen t b) (length (arrivalBytes a t b)) roomLen outLen (λ z.
       after-fits (arrivalMeaning a roomLen t b) (length (arrivalBytes a t b))

@@ -116,7 +116,8 @@ event-room t roomLen outLen r e z = heard t roomLen outLen (sym e ∙ z) .outRoo
 pub step-most : (m : Meaning) (sum : ℕ) → (takes m ≡ true → sum ≤ heldMost) → takes m ≡ true → sum ≤ heldMost
 step-most m sum f k = f k
 
-pub step-next : (t : ToolState) (m : Meaning) (roomLen outLen r : ℕ) → (takes m ≡ true → isTransfer (t .request) ≡ true) → r ≡ eventNumber t roomLen outLen → r ≡ 0 → takes m ≡ true → t .expected .0 < 65535
+pub step-next : (t : ToolState) (m : Meaning) (roomLen outLen r : ℕ) → (takes m ≡ true → isTransfer (t .request) ≡ true) → r ≡ eventNumber t roomLen outLen
+    → r ≡ 0 → takes m ≡ true → t .expected .0 < 65535
 step-next t m roomLen outLen r f e z k =
     let h = heard t roomLen outLen (sym e ∙ z) in
     let w = waiting-transfer roomLen t (h .waiting) (h .possibly) (f k) in
@@ -153,7 +154,8 @@ module _ (a : Addresses) (t : ToolState) (b : List ℕ) (roomLen : ℕ) (x : Arr
     arrival-room k = rw bytes-are (fits-in-room roomLen t _ (taken-by k .fit))
 
 -- the room after a step s
-module _ (a : Addresses) (t : ToolState) (b o : List ℕ) (outLen : ℕ) (x : Arrival) (is : x ≡ arrivalOf a (length o) t b) (s : ToolStep) (e : s ≡ eventResult a t (x .meaning) (x .new) (length o) outLen) where
+module _ (a : Addresses) (t : ToolState) (b o : List ℕ) (outLen : ℕ) (x : Arrival) (is : x ≡ arrivalOf a (length o) t b) (s : ToolStep)
+    (e : s ≡ eventResult a t (x .meaning) (x .new) (length o) outLen) where
   step-number : s .number ≡ eventNumber t (length o) outLen
   unfolding eventResult
   step-number = ap (λ (r : ToolStep). r .number) e
@@ -162,15 +164,18 @@ module _ (a : Addresses) (t : ToolState) (b o : List ℕ) (outLen : ℕ) (x : Ar
   unfolding eventRoom
   arrived-kept h = kept-by (s .number) _ _ o step-number h
 
-  pub arrived-taken : (d o′ : List ℕ) → s .number ≡ 0 → d ≡ partAt (x .place .start) (x .place .len) b → o′ ≡ roomAfter t (x .meaning) (newBytes t (x .received) d) o → o′ ≡ arrivalRoom a t b outLen o
+  pub arrived-taken : (d o′ : List ℕ) → s .number ≡ 0 → d ≡ partAt (x .place .start) (x .place .len) b
+      → o′ ≡ roomAfter t (x .meaning) (newBytes t (x .received) d) o → o′ ≡ arrivalRoom a t b outLen o
   unfolding eventRoom arrivalOf
   arrived-taken d o′ z part q =
       changed-by (s .number) _ o′ _ o step-number z
-      (q ∙ ap (λ (v : List ℕ). roomAfter t (x .meaning) v o) (bytes-are a t b (length o) x is d part) ∙ ap (λ (y : Arrival). roomAfter t (y .meaning) (arrivalBytes a t b) o) is)
+      (q ∙ ap (λ (v : List ℕ). roomAfter t (x .meaning) v o) (bytes-are a t b (length o) x is d part)
+      ∙ ap (λ (y : Arrival). roomAfter t (y .meaning) (arrivalBytes a t b) o) is)
 
 -- What a call hands back
 
-pub step-is : (k n number len : ℕ) (s state : ToolState) → k ≡ number → s ≡ state → n ≡ len → _≡_ {A = ToolStep} (record { number = k; state = s; len = n }) (record { number = number; state = state; len = len })
+pub step-is : (k n number len : ℕ) (s state : ToolState) → k ≡ number → s ≡ state → n ≡ len
+    → _≡_ {A = ToolStep} (record { number = k; state = s; len = n }) (record { number = number; state = state; len = len })
 step-is k n number len s state e p q = cc
 
 -- f is the frame that goes out where number is 0; r is the number that the call gave

@@ -17,8 +17,15 @@ use Rattle.tool.specs.After.{takes, roomAfter}
 
 -- header and data in the room: the tail from h on lent to the copy, then the tail behind the header
 pub kept : (h : ℕ) (v w o x y : List ℕ) → h + length v + length w ≤ length o → x ≡ copied v (take (length o - h) (drop h o))
-    → y ≡ copied w (take (length (take h o ++ (x ++ drop (length o - h) (drop h o))) - (h + length v)) (drop (h + length v) (take h o ++ (x ++ drop (length o - h) (drop h o)))))
-    → take (h + length v) (take h o ++ (x ++ drop (length o - h) (drop h o))) ++ (y ++ drop (length (take h o ++ (x ++ drop (length o - h) (drop h o))) - (h + length v)) (drop (h + length v) (take h o ++ (x ++ drop (length o - h) (drop h o))))) ≡ put h (v ++ w) o
+    → y
+    ≡ copied w
+    (take (length (take h o ++ (x ++ drop (length o - h) (drop h o))) - (h + length v))
+    (drop (h + length v) (take h o ++ (x ++ drop (length o - h) (drop h o)))))
+    → take (h + length v) (take h o ++ (x ++ drop (length o - h) (drop h o)))
+    ++ (y
+    ++ drop (length (take h o ++ (x ++ drop (length o - h) (drop h o))) - (h + length v))
+    (drop (h + length v) (take h o ++ (x ++ drop (length o - h) (drop h o)))))
+    ≡ put h (v ++ w) o
 kept h v w o x y m e f =
     let z : List ℕ = take h o ++ (x ++ drop (length o - h) (drop h o)) in
     let p : z ≡ put h v o = lent-copy h v o x (omega arith) e in
@@ -27,7 +34,8 @@ kept h v w o x y m e f =
 
 -- The new bytes of the data d, which is x of the answer: the first n bytes of a header and what the data carries, p
 module _ (t : ToolState) (x : Received) (d p : List ℕ) (n : ℕ) (is : n ≡ length (header t)) (e : p ≡ carriedBy x d) (m : Meaning) (k : takes m ≡ true) where
-  pub new-fits : (room : ℕ) → (takes m ≡ true → t .held + length (newBytes t x d) ≤ room) → t .held + length (take n (0x76 ∷ t .name .trep ∷ [])) + length p ≤ room
+  pub new-fits : (room : ℕ) → (takes m ≡ true → t .held + length (newBytes t x d) ≤ room)
+      → t .held + length (take n (0x76 ∷ t .name .trep ∷ [])) + length p ≤ room
   new-fits room f =
       let s = sym (length-append (take n (0x76 ∷ t .name .trep ∷ [])) p) ∙ ap length (new-bytes t x d p n is e) in
       omega (arith, f k, s)

@@ -55,7 +55,9 @@ module _ (a : Addresses) (end : End) (d d′ : List ℕ) where
   front-data o o′ e q = rw (← q) e
 
 module _ (name : AnswerName) where
-  pub request-day : isActivities (name .trep) ≡ true → 0x36 ∷ name .trep ∷ name .day / 256 / 256 / 256 % 256 ∷ name .day / 256 / 256 % 256 ∷ name .day / 256 % 256 ∷ name .day % 256 ∷ [] ≡ transferRequest name
+  pub request-day : isActivities (name .trep) ≡ true
+      → 0x36 ∷ name .trep ∷ name .day / 256 / 256 / 256 % 256 ∷ name .day / 256 / 256 % 256 ∷ name .day / 256 % 256 ∷ name .day % 256 ∷ []
+      ≡ transferRequest name
   unfolding transferRequest
   request-day h = rw h
 
@@ -71,7 +73,8 @@ pub transfer-first : (name : AnswerName) (e : ℕ) → e ≡ 1 → transferReque
 unfolding transferData
 transfer-first name e h = rw (eq-eqb e 1 h)
 
-pub transfer-next : (name : AnswerName) (e : ℕ) (before : SubMessage) (code : AckCode) → (e ≡ 1 → ⊥) → before ≡ sub (e - 1) → code ≡ acknowledgeOf before → acknowledgement code ≡ transferData name e
+pub transfer-next : (name : AnswerName) (e : ℕ) (before : SubMessage) (code : AckCode) → (e ≡ 1 → ⊥) → before ≡ sub (e - 1) → code ≡ acknowledgeOf before
+    → acknowledgement code ≡ transferData name e
 unfolding transferData
 transfer-next name e before code h b c = rw (ne-eqb e 1 h, c, b)
 

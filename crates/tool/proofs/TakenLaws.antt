@@ -33,7 +33,8 @@ taken-fit Last false e = never (cc)
 taken-fit Above f e = never (cc)
 taken-fit Other f e = never (cc)
 
-taken-tests : (g r f s w : Bool) (code : ℕ) (m : Meaning) → takes (cond g (cond r (cond w Ignored (RefusedBy code)) (cond f m (cond s Confirmed Ignored))) FailedWait) ≡ true → (f ≡ true) × (takes m ≡ true)
+taken-tests : (g r f s w : Bool) (code : ℕ) (m : Meaning)
+    → takes (cond g (cond r (cond w Ignored (RefusedBy code)) (cond f m (cond s Confirmed Ignored))) FailedWait) ≡ true → (f ≡ true) × (takes m ≡ true)
 unfolding takes
 taken-tests true false true s w code m e = (refl, e)
 taken-tests true true f s true code m e = never (cc)
@@ -47,13 +48,14 @@ pub record Taken (roomLen : ℕ) (t : ToolState) (n : ℕ) : Type 0 where
   pub transfer : isTransfer (t .request) ≡ true
   pub fit : fits roomLen t n ≡ true
 
-pub taken : (a : Addresses) (roomLen : ℕ) (t : ToolState) (b : List ℕ) → takes (arrivalMeaning a roomLen t b) ≡ true → Taken roomLen t (length (arrivalBytes a t b))
+pub taken : (a : Addresses) (roomLen : ℕ) (t : ToolState) (b : List ℕ) → takes (arrivalMeaning a roomLen t b) ≡ true
+    → Taken roomLen t (length (arrivalBytes a t b))
 unfolding arrivalMeaning dataMeaning refusalMeaning transferMeaning arrivalBytes
 taken a roomLen t b e =
     let d : List ℕ = dataOf a ends.Tool b in
     let x : Received = receivedBy t d in
     let n : ℕ = length (newBytes t x d) in
     let q =
-    taken-tests (eqb (judged a ends.Tool b) 0) (isRefusal t d) (isTransfer (t .request)) (sameBytes d (replyWanted (t .request))) (eqb (getD d 2 0) 0x78) (getD d 2 0)
-    (meaningOf x (fits roomLen t n)) e in
+    taken-tests (eqb (judged a ends.Tool b) 0) (isRefusal t d) (isTransfer (t .request)) (sameBytes d (replyWanted (t .request)))
+    (eqb (getD d 2 0) 0x78) (getD d 2 0) (meaningOf x (fits roomLen t n)) e in
     record { transfer = q .0; fit = taken-fit x (fits roomLen t n) (q .1) }

@@ -13,7 +13,8 @@ use Rattle.arrival.specs.declared.Outcome.{Outcome}
 use Rattle.arrival.specs.declared.Outcome.the-variants.{Waiting, Done, NoAnswer, NoRoom, Refused}
 use Rattle.arrival.specs.declared.ToolState.{ToolState}
 use Rattle.arrival.specs.declared.Meaning.{Meaning}
-use Rattle.arrival.specs.declared.Meaning.the-variants.{Ignored, FailedWait, Confirmed, WholeAnswer, SubMessageTaken, LastTaken, NoRoomForAnswer, NoRoomForSubMessage, RefusedBy}
+use Rattle.arrival.specs.declared.Meaning.the-variants.{Ignored, FailedWait, Confirmed, WholeAnswer, SubMessageTaken}
+use Rattle.arrival.specs.declared.Meaning.the-variants.{LastTaken, NoRoomForAnswer, NoRoomForSubMessage, RefusedBy}
 use Rattle.tool.specs.Sent.{acknowledgement, frameSent}
 
 -- its bytes go into the room
@@ -31,15 +32,30 @@ takes (RefusedBy code) = false
 -- "An ended state keeps all as at its last wait but outcome and held length"
 abbrev pub ended : ToolState → Outcome → ℕ → ToolState
 ended t outcome held =
-    record { request = t .request; outcome = outcome; name = t .name; sendings = t .sendings; expected = t .expected; held = held }
+    record {
+      request = t .request;
+      outcome = outcome;
+      name = t .name;
+      sendings = t .sendings;
+      expected = t .expected;
+      held = held;
+    }
 
 abbrev pub waits : ToolState → ℕ → ℕ → ℕ → ToolState
 waits t sendings e held =
-    record { request = t .request; outcome = Waiting; name = t .name; sendings = sendings; expected = sub e; held = held }
+    record {
+      request = t .request;
+      outcome = Waiting;
+      name = t .name;
+      sendings = sendings;
+      expected = sub e;
+      held = held;
+    }
 
 -- "After a failed wait the same frame goes out again; after the third sending the request ends 'no answer' (DDP_027)"
 unfoldable pub afterFailedWait : ToolState → ToolState
-afterFailedWait t = cond (leb 3 (t .sendings)) (ended t NoAnswer (t .held)) (waits t (t .sendings + 1) (t .expected .0) (t .held))
+afterFailedWait t =
+    cond (leb 3 (t .sendings)) (ended t NoAnswer (t .held)) (waits t (t .sendings + 1) (t .expected .0) (t .held))
 
 -- the next state; n new bytes
 unfoldable pub stateAfter : ToolState → Meaning → ℕ → ToolState
@@ -53,7 +69,8 @@ stateAfter t NoRoomForAnswer n = ended t NoRoom (t .held)
 stateAfter t NoRoomForSubMessage n = ended t NoRoom (t .held)
 stateAfter t (RefusedBy code) n = ended t (Refused code) (t .held)
 
--- the frame that goes out, none for none: "expect the next, send the acknowledgement with that number"; "for a sub message, code FFFF is sent"
+-- the frame that goes out, none for none: "expect the next, send the acknowledgement with that number";
+-- "for a sub message, code FFFF is sent"
 unfoldable pub sentAfter : Addresses → ToolState → Meaning → List ℕ
 sentAfter a t Ignored = []
 sentAfter a t FailedWait = cond (leb 3 (t .sendings)) [] (frameSent a (t .request) (t .name) (t .expected .0))

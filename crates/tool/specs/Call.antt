@@ -29,7 +29,8 @@ unfoldable pub requestNumber : Request → AnswerName → ℕ
 requestNumber request name =
     cond (isTransfer request) (nameNumber name) (unless (eqb (name .trep) 0 && eqb (name .day) 0) notInTable done)
 
--- "Tool begin: 12, 11 (already waiting or state impossible), 4 (under 260)"; a state that does not wait is possible in any room
+-- "Tool begin: 12, 11 (already waiting or state impossible), 4 (under 260)";
+-- a state that does not wait is possible in any room
 unfoldable pub beginNumber : ToolState → Request → AnswerName → ℕ → ℕ
 beginNumber t request name outLen =
     orElse (requestNumber request name)

@@ -104,8 +104,8 @@ fn event_number(state: ToolState, room_len: usize, out_len: usize) -> u8
     0
 }
 
-// An event that means this: refused by 11 and 4, in this order, or the next state and the frame sent. Where bytes are taken the request
-// is a transfer, and their sum with those held is within bounds.
+// An event that means this: refused by 11 and 4, in this order, or the next state and the frame sent. Where bytes are
+// taken the request is a transfer, and their sum with those held is within bounds.
 fn event_step(
     state: ToolState,
     meaning: Meaning,
@@ -148,9 +148,12 @@ pub fn arrival_step(state: ToolState, frame: &[u8], room_len: usize, out: &mut [
 
 // The same with the room itself, which takes the new bytes.
 pub fn arrived(state: ToolState, frame: &[u8], room: &mut [u8], out: &mut [u8]) -> ToolStep
-    ensures { λ r. ⌜ r ≡ arrivalResult lab state (now (frame .entry)) (length (now (room .entry))) (length (now (out .entry))) ⌝ }
-    ensures { λ _. ⌜ now (room .exit) ≡ arrivalRoom lab state (now (frame .entry)) (length (now (out .entry))) (now (room .entry)) ⌝ }
-    ensures { λ _. ⌜ now (out .exit) ≡ arrivalOut lab state (now (frame .entry)) (length (now (room .entry))) (now (out .entry)) ⌝ }
+    ensures { λ r. ⌜ r ≡
+        arrivalResult lab state (now (frame .entry)) (length (now (room .entry))) (length (now (out .entry))) ⌝ }
+    ensures { λ _. ⌜ now (room .exit) ≡
+        arrivalRoom lab state (now (frame .entry)) (length (now (out .entry))) (now (room .entry)) ⌝ }
+    ensures { λ _. ⌜ now (out .exit) ≡
+        arrivalOut lab state (now (frame .entry)) (length (now (room .entry))) (now (out .entry)) ⌝ }
 {
     let arrival = arrival::event::arrival_of(state, frame, room.len());
     let meaning = arrival.meaning;

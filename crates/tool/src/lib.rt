@@ -6,7 +6,8 @@ pub mod call;
 mod room;
 mod sent;
 
-// What a call hands back: refused, the state handed in and nothing sent; else the next state and the length of the frame sent, 0 for none.
+// What a call hands back: refused, the state handed in and nothing sent; else the next state and the length of the
+// frame sent, 0 for none.
 pub struct ToolStep {
     pub number: u8,
     pub state: ToolState,

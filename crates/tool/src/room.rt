@@ -30,8 +30,10 @@ pub(crate) fn take_in(
     data: &[u8],
     room: &mut [u8],
 )
-    requires { ⌜ (takes meaning ≡ true → state .held + length (newBytes state received (now «data»)) ≤ length (now room)) ⌝ }
-    ensures { λ _. ⌜ now (room .exit) ≡ roomAfter state meaning (newBytes state received (now («data» .entry))) (now (room .entry)) ⌝ }
+    requires { ⌜ (takes meaning ≡ true →
+        state .held + length (newBytes state received (now «data»)) ≤ length (now room)) ⌝ }
+    ensures { λ _. ⌜ now (room .exit) ≡
+        roomAfter state meaning (newBytes state received (now («data» .entry))) (now (room .entry)) ⌝ }
 {
     let held = state.held as usize;
     let header = [ANSWER, state.name.trep];

@@ -20,7 +20,7 @@ ghost use Rattle.frame.specs.declared.End.the-variants as ends;
 ghost use Rattle.split.specs.Codes.{sub};
 ghost use Rattle.tool.specs.Sent.{transferRequest, acknowledgement, transferData, frameSent};
 
-// Each writer answers the length of the frame, which stands at the front of `out`; 260 bytes are enough for every frame.
+// Each writer answers the length of the frame, which stands at the front of `out`; 260 bytes take every frame.
 fn write_data(data: &[u8], out: &mut [u8]) -> usize
     requires { ⌜ 1 ≤ length (now «data») ⌝ }
     requires { ⌜ length (now «data») ≤ 255 ⌝ }
@@ -79,7 +79,8 @@ fn before(expected: SubMessage) -> SubMessage
 fn write_transfer(name: AnswerName, expected: SubMessage, out: &mut [u8]) -> usize
     requires { ⌜ 260 ≤ length (now out) ⌝ }
     ensures { λ n. ⌜ n ≡ length (frameOf lab ends.Unit (transferData name (expected .0))) ⌝ }
-    ensures { λ _. ⌜ now (out .exit) ≡ front (frameOf lab ends.Unit (transferData name (expected .0))) (now (out .entry)) ⌝ }
+    ensures { λ _. ⌜ now (out .exit) ≡
+        front (frameOf lab ends.Unit (transferData name (expected .0))) (now (out .entry)) ⌝ }
 {
     if expected.0 == 1 {
         return write_transfer_request(name, out);

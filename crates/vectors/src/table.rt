@@ -6,7 +6,8 @@ use octets::Written;
 ghost use Prim.Native.Nat.{_≤_, _<_};
 ghost use lib.ListN.{length};
 
-// A row is a name and bytes, each behind its length. Here are the frames that the table gives whole, to the unit and to the
+// A row is a name and bytes, each behind its length. Here are the frames that the table gives whole, to the unit and to
+// the
 // tool.
 const TO_UNIT: [u8; 340] = *b"\
     \x13start communication\x05\x81\xee\xf0\x81\xe0\

@@ -11,4 +11,19 @@ ruleset all = (needs, cond-t, cond-f, eq-eqb, ne-eqb, sid-at)
 
 pub sid-sent-spec : {M : Type 1} → statement M
 unfolding sidSent
-sid-sent-spec = tie.close (tie.spec (λ c. search all) (λ c. search all) (λ c. search all) (λ c. search all) (λ c. search all) (λ c. search all) (λ c. search all) (λ c. search all) (λ c. search all) (λ c. search all) (λ c. search all) (λ c. search all) (λ c. search all))
+sid-sent-spec =
+    tie.close
+    (tie.spec
+    (λ c. search all)
+    (λ c. search all)
+    (λ c. search all)
+    (λ c. search all)
+    (λ c. search all)
+    (λ c. search all)
+    (λ c. search all)
+    (λ c. search all)
+    (λ c. search all)
+    (λ c. search all)
+    (λ c. search all)
+    (λ c. search all)
+    (λ c. search all))

@@ -8,4 +8,14 @@ use Rattle.arrival.proofs.state.possible.Tie as tie
 ruleset all = (needs, flag-nt, flag-nf, possible-still, possible-unsent, possible-over, possible-fixed, possible-transfer)
 
 pub possible-spec : {M : Type 1} → statement M
-possible-spec = tie.close (tie.spec (λ c κs. search all) (λ c. search all) (λ c. search all) (λ c. search all) (λ c κs. search all) (λ c. search all) (λ c κs. search all) (λ c. search all))
+possible-spec =
+    tie.close
+    (tie.spec
+    (λ c κs. search all)
+    (λ c. search all)
+    (λ c. search all)
+    (λ c. search all)
+    (λ c κs. search all)
+    (λ c. search all)
+    (λ c κs. search all)
+    (λ c. search all))

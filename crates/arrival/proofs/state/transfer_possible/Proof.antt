@@ -8,4 +8,14 @@ use Rattle.arrival.proofs.state.transfer_possible.Tie as tie
 ruleset all = (needs, flag-nt, flag-nf, transfer-unnamed, transfer-held, transfer-room, transfer-most)
 
 pub transfer-possible-spec : {M : Type 1} → statement M
-transfer-possible-spec = tie.close (tie.spec (λ c. search all) (λ c κs. search all) (λ c. search all) (λ c. search all) (λ c κs. search all) (λ c. search all) (λ c. search all) (λ c. search all))
+transfer-possible-spec =
+    tie.close
+    (tie.spec
+    (λ c. search all)
+    (λ c κs. search all)
+    (λ c. search all)
+    (λ c. search all)
+    (λ c κs. search all)
+    (λ c. search all)
+    (λ c. search all)
+    (λ c. search all))
