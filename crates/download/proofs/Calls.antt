@@ -13,12 +13,11 @@ use Rattle.frame.specs.declared.Addresses.{Addresses}
 use Rattle.catalog.specs.declared.AnswerName.{AnswerName}
 use Rattle.services.specs.declared.UnitState.{UnitState}
 use Rattle.unit.specs.Call.{unitReply, unitResult, unitOut}
-use Rattle.tool.specs.declared.Request.{Request}
-use Rattle.tool.specs.declared.ToolState.{ToolState}
-use Rattle.tool.specs.declared.Meaning.the-variants.{FailedWait}
-use Rattle.tool.specs.Event.{arrivalMeaning}
-use Rattle.tool.specs.Call.{beginNumber, beginState, beginSent, beginResult, beginOut, eventSent, eventResult, eventOut, arrivalResult, arrivalOut, waitResult}
-use Rattle.tool.specs.Call.{waitOut}
+use Rattle.arrival.specs.declared.Request.{Request}
+use Rattle.arrival.specs.declared.ToolState.{ToolState}
+use Rattle.arrival.specs.declared.Meaning.the-variants.{FailedWait}
+use Rattle.arrival.specs.Meaning.{arrivalMeaning}
+use Rattle.tool.specs.Call.{beginNumber, beginState, beginSent, beginResult, beginOut, eventSent, eventResult, eventOut, arrivalResult, arrivalOut, waitResult, waitOut}
 
 module _ (a : Addresses) (out : List ℕ) where
   pub unit-string : (store : List ℕ) (u : UnitState) (b : List ℕ)

@@ -5,7 +5,7 @@ use Rattle.frame.specs.Frame.{closed, frameOf, countRight, startRight, addresse
 use Rattle.catalog.specs.Table.{knownTo, listed, isActivities}
 use Rattle.catalog.specs.Name.{firstSecond, dayNamed, sameAnswer, nameNumber}
 use Rattle.split.specs.Split.{countOf, carries, subField, subFrame}
-use Rattle.split.specs.Join.{isAnswer, receivedAs}
+use Rattle.split.specs.Join.{isAnswer, receivedAs, carriedBy}
 use Rattle.octets.specs.Search.{firstFrom}
 use Rattle.store.specs.Layout.{headerSize, entrySize, entriesSize, nameAt}
 use Rattle.store.specs.Check.{headerFits, countsFit, filledTo, placeRight, placesRight, answerRight, answersRight, repeats, namesDiffer, storeNumber}
@@ -16,10 +16,11 @@ use Rattle.services.specs.Services.{requestName, answerFrom, onTransfer, onCode
 use Rattle.services.specs.Services.{onData}
 use Rattle.services.specs.After.{stateAfter as unitAfter}
 use Rattle.unit.specs.Call.{reactionAt, reactionTo, replyData, replyTo, numberBefore, unitNumber, unitState, unitReply, unitResult}
-use Rattle.tool.specs.State.{heldRight, transferPossible, possible as toolPossible}
-use Rattle.tool.specs.Sent.{transferRequest, acknowledgement, transferData, frameSent, sidSent}
-use Rattle.tool.specs.Event.{newBytes, fits, meaningOf, transferMeaning, isRefusal, refusalMeaning, dataMeaning, arrivalMeaning, arrivalBytes, afterFailedWait}
-use Rattle.tool.specs.Event.{stateAfter, sentAfter, roomAfter}
+use Rattle.arrival.specs.State.{heldRight, transferPossible, possible as toolPossible}
+use Rattle.tool.specs.Sent.{transferRequest, acknowledgement, transferData, frameSent}
+use Rattle.arrival.specs.Replies.{sidSent}
+use Rattle.arrival.specs.Meaning.{header, fits, meaningOf, transferMeaning, isRefusal, refusalMeaning, dataMeaning, arrivalMeaning, arrivalBytes}
+use Rattle.tool.specs.After.{takes, afterFailedWait, stateAfter, sentAfter, roomAfter}
 use Rattle.tool.specs.Call.{requestNumber, beginNumber, beginState, beginSent, beginResult, eventNumber, eventState, eventSent, eventRoom, eventResult}
 
 -- a lookup in a store
@@ -29,5 +30,5 @@ lookups = tt
 
 -- calls of both ends
 unfoldable pub calls : Unit {0}
-unfolding lookups closed frameOf countRight startRight addressed checksumRight judged dataPlace dataOf countOf carries subField subFrame possible possibleAt sendable phasePossible requestName answerFrom onTransfer onCode onSending onAcknowledge onData reactionAt reactionTo unitAfter replyData replyTo numberBefore unitNumber unitState unitReply unitResult transferRequest acknowledgement transferData frameSent sidSent heldRight transferPossible toolPossible requestNumber beginNumber beginState beginSent beginResult isAnswer receivedAs newBytes fits meaningOf transferMeaning isRefusal refusalMeaning dataMeaning arrivalMeaning arrivalBytes afterFailedWait stateAfter sentAfter roomAfter eventNumber eventState eventSent eventRoom eventResult front put
+unfolding lookups closed frameOf countRight startRight addressed checksumRight judged dataPlace dataOf countOf carries subField subFrame possible possibleAt sendable phasePossible requestName answerFrom onTransfer onCode onSending onAcknowledge onData reactionAt reactionTo unitAfter replyData replyTo numberBefore unitNumber unitState unitReply unitResult transferRequest acknowledgement transferData frameSent sidSent heldRight transferPossible toolPossible requestNumber beginNumber beginState beginSent beginResult isAnswer receivedAs carriedBy header fits meaningOf transferMeaning isRefusal refusalMeaning dataMeaning arrivalMeaning arrivalBytes takes afterFailedWait stateAfter sentAfter roomAfter eventNumber eventState eventSent eventRoom eventResult front put
 calls = tt

@@ -11,28 +11,29 @@ use borrow.Author.Tests.{eq-eqb, ne-eqb, le-leb, lt-leb, lt-ltb, le-ltb, ltb-tru
 use Rattle.octets.proofs.Tests.{and-false}
 use Rattle.octets.specs.Buffer.{front, put}
 use Rattle.octets.specs.BigEndian.{numberAt}
+use Rattle.octets.proofs.Tests.{and-false}
 use Rattle.octets.proofs.BufferLaws.{length-front, put-front}
 use Rattle.frame.specs.declared.Addresses.{Addresses}
 use Rattle.frame.specs.declared.End.the-variants as ends
 use Rattle.frame.specs.Frame.{judged}
 use Rattle.split.specs.Codes.{sub}
 use Rattle.split.specs.Split.{countOf, carries, subField}
-use Rattle.split.specs.Join.{isWhole, receivedAs}
+use Rattle.split.specs.Join.{isWhole, receivedAs, carriedBy}
 use Rattle.split.specs.declared.Received.{Received}
 use Rattle.split.specs.declared.Received.the-variants.{Whole, Full, Last, Other}
 use Rattle.split.proofs.SplitLaws.{carries-split, field-split}
 use Rattle.split.proofs.JoinLaws.{whole-answer, other-below, last, full}
 use Rattle.split.proofs.Theorems.{sub-good, sub-reads-back, answers-back, count-one, count-split, length-one, length-full, length-last, number-reads-back}
-use Rattle.tool.specs.declared.Request.the-variants as requests
-use Rattle.tool.specs.declared.Outcome.{Outcome}
-use Rattle.tool.specs.declared.Outcome.the-variants.{Waiting, Done, NoAnswer}
-use Rattle.tool.specs.declared.ToolState.{ToolState}
-use Rattle.tool.specs.declared.Meaning.{Meaning}
-use Rattle.tool.specs.declared.Meaning.the-variants.{FailedWait, WholeAnswer, SubMessageTaken, LastTaken}
-use Rattle.tool.specs.State.{heldRight, transferPossible, possible}
+use Rattle.arrival.specs.declared.Request.the-variants as requests
+use Rattle.arrival.specs.declared.Outcome.{Outcome}
+use Rattle.arrival.specs.declared.Outcome.the-variants.{Waiting, Done, NoAnswer}
+use Rattle.arrival.specs.declared.ToolState.{ToolState}
+use Rattle.arrival.specs.declared.Meaning.{Meaning}
+use Rattle.arrival.specs.declared.Meaning.the-variants.{FailedWait, WholeAnswer, SubMessageTaken, LastTaken}
+use Rattle.arrival.specs.State.{heldRight, transferPossible, possible}
 use Rattle.tool.specs.Sent.{frameSent}
-use Rattle.tool.specs.Event.{newBytes, fits, meaningOf, transferMeaning, isRefusal, dataMeaning, arrivalMeaning, arrivalBytes, afterFailedWait, stateAfter}
-use Rattle.tool.specs.Event.{sentAfter, roomAfter}
+use Rattle.arrival.specs.Meaning.{header, newBytes, fits, meaningOf, transferMeaning, isRefusal, dataMeaning, arrivalMeaning, arrivalBytes}
+use Rattle.tool.specs.After.{takes as takesBytes, afterFailedWait, stateAfter, sentAfter, roomAfter}
 use Rattle.tool.specs.Call.{eventNumber, eventState, eventSent, eventRoom, eventResult}
 use Rattle.line.specs.Line.{Result, silent, sends, toolEnd}
 use Rattle.line.proofs.Cases.{byTest}
@@ -57,12 +58,12 @@ module _ (a : Addresses) (output : ℕ) (t : ToolRoom) (z : eventNumber (t .stat
   arrived b m new e n = rw (z, e, n)
 
   ended : toolWaitEnd a output t ≡ leaves a t FailedWait []
-  unfolding eventResult eventState eventSent roomAfter
+  unfolding eventResult eventState eventSent roomAfter takesBytes
   ended = rw z
 
   -- a refused string is a failed wait, as a wait's end is
   refused-ends : (b : List ℕ) → refused a toolEnd b ≡ true → toolArrival a output t b ≡ toolWaitEnd a output t
-  unfolding arrivalMeaning stateAfter roomAfter
+  unfolding arrivalMeaning stateAfter roomAfter takesBytes
   refused-ends b r =
       let e : eqb (judged a ends.Tool b) 0 ≡ false = not-true _ r in
       arrived b FailedWait (arrivalBytes a (t .state) b) (rw e) refl ∙ sym ended
@@ -167,13 +168,14 @@ module _ (g : Premises) where
   -- the bytes that frame p + 1 adds
   joins-split : (p sendings : ℕ) → 252 < length (answerData g) → suc p < 65536
       → heldWith g p ++ newBytes (toolWith Waiting sendings (suc p) p .state) Full (subField (g .name .trep) (suc p) (answerData g)) ≡ heldWith g (suc p)
-  unfolding newBytes
+  unfolding header carriedBy
   joins-split zero sendings h b = rw (carried (g .name .trep) (answerData g) h 1 b)
   joins-split (suc p) sendings h b = rw (ne-eqb (suc (suc p)) 1 (λ z. omega arith), carried (g .name .trep) (answerData g) h (suc (suc p)) b)
 
-  joins-whole : length (answerData g) ≤ 252 → subField (g .name .trep) 1 (answerData g) ≡ heldWith g 1
-  unfolding subField
-  joins-whole h = rw (le-ltb 252 (length (answerData g)) h)
+  joins-whole : (sendings : ℕ) → length (answerData g) ≤ 252
+      → heldWith g 0 ++ newBytes (toolWith Waiting sendings 1 0 .state) Whole (subField (g .name .trep) 1 (answerData g)) ≡ heldWith g 1
+  unfolding header carriedBy subField
+  joins-whole sendings h = rw (le-ltb 252 (length (answerData g)) h)
 
   module _ (output : ℕ) (roomy : 260 ≤ output) (p f : ℕ) (few : f < 3) (more : suc p ≤ countOf (length (answerData g))) where
     number : eventNumber (waitingTool p f .state) (length (waitingTool p f .room)) output ≡ 0
@@ -187,12 +189,12 @@ module _ (g : Premises) where
 
       -- after a failed wait the same request goes out again
       pub resends : suc f < 3 → toolWaitEnd a output (waitingTool p f) ≡ sends (waitingTool p (suc f)) (frameSent a requests.Transfer (g .name) (suc p))
-      unfolding stateAfter afterFailedWait sentAfter roomAfter
+      unfolding stateAfter afterFailedWait sentAfter roomAfter takesBytes
       resends l = ended a output (waitingTool p f) number ∙ rw (lt-leb 3 (suc f) (omega arith), add-one (suc f), frames.strings-asked a (g .name) (suc p))
 
       -- after the third sending the tool ends "no answer"
       pub ends-no-answer : suc f ≡ 3 → toolWaitEnd a output (waitingTool p f) ≡ silent (noAnswerTool p)
-      unfolding stateAfter afterFailedWait sentAfter roomAfter
+      unfolding stateAfter afterFailedWait sentAfter roomAfter takesBytes
       ends-no-answer e = ended a output (waitingTool p f) number ∙ rw e
 
       -- frame k arrives, and is r to the tool
@@ -209,7 +211,7 @@ module _ (g : Premises) where
 
       -- a frame below the expected one is ignored
       pub ignores : (k : ℕ) → suc k ≤ p → toolArrival a output (waitingTool p f) (transfer a g .frame (suc k)) ≡ silent (waitingTool p f)
-      unfolding meaningOf newBytes stateAfter sentAfter roomAfter
+      unfolding meaningOf stateAfter sentAfter roomAfter takesBytes
       ignores k l =
           let s = frames.splits g (omega arith) in
           framed (suc k) Other (lower-is (g .name .trep) (answerData g) s (suc k) (omega (arith, frames.frames-most g)) (suc p) (omega arith) (omega arith))
@@ -229,15 +231,15 @@ module _ (g : Premises) where
         put-behind = put-front (length (heldWith g p)) (heldWith g p) new (g .room) refl ∙ ap (λ (l : List ℕ). front l (g .room)) joins
 
         goes-on : leaves a (waitingTool p f) SubMessageTaken new ≡ sends (waitingTool (suc p) 0) (frameSent a requests.Transfer (g .name) (suc (suc p)))
-        unfolding stateAfter sentAfter roomAfter
+        unfolding stateAfter sentAfter roomAfter takesBytes
         goes-on = rw (grown, put-behind, add-one (suc p), frames.strings-asked a (g .name) (suc (suc p)))
 
         ends-whole : leaves a (waitingTool p f) WholeAnswer new ≡ silent (toolWith Done (suc f) (suc p) (suc p))
-        unfolding stateAfter sentAfter roomAfter
+        unfolding stateAfter sentAfter roomAfter takesBytes
         ends-whole = rw (grown, put-behind)
 
         ends-last : leaves a (waitingTool p f) LastTaken new ≡ silent (toolWith Done (suc f) (suc p) (suc p))
-        unfolding stateAfter sentAfter roomAfter
+        unfolding stateAfter sentAfter roomAfter takesBytes
         ends-last = rw (grown, put-behind)
 
       -- the expected frame, and more to follow: the next one is asked for
@@ -253,7 +255,7 @@ module _ (g : Premises) where
 
       -- the expected frame is the last one: done
       pub ends-done : suc p ≡ countOf (length (answerData g)) → toolArrival a output (waitingTool p f) (transfer a g .frame (suc p)) ≡ silent (doneTool f)
-      unfolding meaningOf newBytes
+      unfolding meaningOf carriedBy
       ends-done e =
           byTest (ltb 252 (length (answerData g)))
           (λ t.
@@ -265,9 +267,8 @@ module _ (g : Premises) where
           (λ t.
           let s = ltb-false 252 (length (answerData g)) t in
           let z : p ≡ 0 = omega (arith, count-one (length (answerData g)) s) in
-          let r : receivedAs (g .name .trep) (suc p) (subField (g .name .trep) (suc p) (answerData g)) ≡ Whole =
-          rw z (whole-is (g .name .trep) (answerData g) s) in
-          let j : heldWith g p ++ subField (g .name .trep) (suc p) (answerData g) ≡ heldWith g (suc p) = rw z (joins-whole s) in
+          let r : receivedAs (g .name .trep) (suc p) (subField (g .name .trep) (suc p) (answerData g)) ≡ Whole = rw z (whole-is (g .name .trep) (answerData g) s) in
+          let j : heldWith g p ++ newBytes (toolWith Waiting (suc f) (suc p) p .state) Whole (subField (g .name .trep) (suc p) (answerData g)) ≡ heldWith g (suc p) = rw z (joins-whole (suc f) s) in
           framed (suc p) Whole r ∙ rw (new-fits _ j) (ends-whole _ j) ∙ at-last)
         where
           at-last : _≡_ {A = Result (List ℕ) ToolRoom} (silent (toolWith Done (suc f) (suc p) (suc p))) (silent (doneTool f))

@@ -20,10 +20,10 @@ use Rattle.frame.specs.Frame.{judged}
 use Rattle.catalog.specs.declared.AnswerName.{AnswerName}
 use Rattle.services.specs.declared.UnitState.{UnitState}
 use Rattle.unit.specs.Call.{unitResult, unitReply}
-use Rattle.tool.specs.declared.Request.{Request}
-use Rattle.tool.specs.declared.ToolState.{ToolState}
-use Rattle.tool.specs.declared.Meaning.the-variants.{FailedWait}
-use Rattle.tool.specs.Event.{arrivalMeaning}
+use Rattle.arrival.specs.declared.Request.{Request}
+use Rattle.arrival.specs.declared.ToolState.{ToolState}
+use Rattle.arrival.specs.declared.Meaning.the-variants.{FailedWait}
+use Rattle.arrival.specs.Meaning.{arrivalMeaning}
 use Rattle.tool.specs.Call.{beginNumber, beginResult, beginSent, eventSent, arrivalResult, arrivalRoom, waitResult}
 use Rattle.line.specs.Line.{Result, Ends, End, unitEnd, toolEnd}
 

@@ -70,9 +70,9 @@ module _ (a : Addresses) (end : End) (f : List ℕ) (right : judged a end f ≡ 
       let n : length (f ++ rest) ≡ length f + length rest = length-append f rest in
       let byte : (i : ℕ) → i < 5 → getD (f ++ rest) i 0 ≡ getD f i 0 = λ i h. List·getD-append f rest 0 i (omega arith) in
       ⊎-elim
-        (λ e. told-start a end f right (f ++ rest) (byte 0 (omega arith)) (λ z. omega arith) e)
-        (λ e. told-len a end f right (f ++ rest) (byte 0 (omega arith)) (λ z. omega arith) e (omega arith) (byte 3 (omega arith)))
-        first-byte
+      (λ e. told-start a end f right (f ++ rest) (byte 0 (omega arith)) (λ z. omega arith) e)
+      (λ e. told-len a end f right (f ++ rest) (byte 0 (omega arith)) (λ z. omega arith) e (omega arith) (byte 3 (omega arith)))
+      first-byte
 
   -- of its first n bytes it is told, or not told yet
   pub front-part : (n : ℕ) → 0 < n → n ≤ length f → (frameLength (take n f) ≡ 0) ⊎ (frameLength (take n f) ≡ length f)
@@ -80,10 +80,10 @@ module _ (a : Addresses) (end : End) (f : List ℕ) (right : judged a end f ≡ 
       let k : length (take n f) ≡ n = length-take-le n f h in
       let first : getD (take n f) 0 0 ≡ getD f 0 0 = getD-take n f 0 0 some in
       ⊎-elim
-        (λ e. inr (told-start a end f right (take n f) first (λ z. omega arith) e))
-        (λ e.
-          elim (decLt n 4) as (λ _. (frameLength (take n f) ≡ 0) ⊎ (frameLength (take n f) ≡ length f)) [
-            | yes l ↦ inl (not-told a end f right (take n f) first (λ z. omega arith) e (omega arith))
-            | no l ↦ inr (told-len a end f right (take n f) first (λ z. omega arith) e (omega arith) (getD-take n f 3 0 (omega arith)))
-          ])
-        first-byte
+      (λ e. inr (told-start a end f right (take n f) first (λ z. omega arith) e))
+      (λ e.
+      elim (decLt n 4) as (λ _. (frameLength (take n f) ≡ 0) ⊎ (frameLength (take n f) ≡ length f)) [
+        | yes l ↦ inl (not-told a end f right (take n f) first (λ z. omega arith) e (omega arith))
+        | no l ↦ inr (told-len a end f right (take n f) first (λ z. omega arith) e (omega arith) (getD-take n f 3 0 (omega arith)))
+      ])
+      first-byte

@@ -5,7 +5,7 @@ use mathlib.Core.List.{List, append-nil}
 use mathlib.Core.Path.{_≡_, refl, sym, ap, _∙_}
 use native.Mathlib.Omega.{arith}
 use lib.ListN.{length, drop-of-length-le}
-use borrow.Author.Tests.{lt-ltb, le-ltb, le-leb, lt-leb, eq-eqb, ne-eqb}
+use borrow.Author.Tests.{lt-ltb, le-ltb, le-leb, lt-leb, eq-eqb}
 use Rattle.octets.specs.Order.{orElse}
 use Rattle.octets.specs.Numbers.{changedBy}
 use Rattle.octets.specs.Buffer.{front, copied}
@@ -22,27 +22,24 @@ use Rattle.unit.specs.declared.UnitReply.{UnitReply}
 use Rattle.services.specs.State.{freshUnit, possibleAt}
 use Rattle.unit.specs.State as unit-state
 use Rattle.unit.specs.Call.{numberBefore, unitNumber, unitResult, unitOut}
-use Rattle.tool.specs.declared.Request.{Request}
-use Rattle.tool.specs.declared.Meaning.{Meaning}
-use Rattle.tool.specs.declared.ToolState.{ToolState}
+use Rattle.arrival.specs.declared.Request.{Request}
+use Rattle.arrival.specs.declared.Meaning.{Meaning}
+use Rattle.arrival.specs.declared.ToolState.{ToolState}
 use Rattle.tool.specs.declared.ToolStep.{ToolStep}
-use Rattle.tool.specs.State as tool-state
-use Rattle.tool.specs.Call.{requestNumber, beginNumber, beginResult, beginOut, eventNumber, eventResult, arrivalResult, arrivalRoom, arrivalOut, waitResult, waitOut}
+use Rattle.arrival.specs.State as tool-state
+use Rattle.tool.specs.Call.{requestNumber, beginNumber, beginResult, beginOut, eventNumber, eventResult, arrivalResult, arrivalRoom, arrivalOut, waitResult}
+use Rattle.tool.specs.Call.{waitOut}
 use Rattle.host.specs.Packed.{packedUnit, isUnit, noUnit, unpackedUnit, requestFrom, packedTool, isTool, noTool, unpackedTool}
-use Rattle.host.specs.Calls.{unitFreshNumber, unitFreshState, unitHanded, unitKept, unitStep, unitStepReply, toolFreshNumber, toolFreshState, toolHanded, toolKept, toolBegin, toolBeginOut, toolArrival, toolArrivalRoom, toolArrivalOut, toolWait, toolWaitOut}
+use Rattle.host.specs.Calls.{unitFreshNumber, unitFreshState, unitHanded, unitKept, unitStep, unitStepReply, toolFreshNumber, toolFreshState, toolHanded}
+use Rattle.host.specs.Calls.{toolKept, toolBegin, toolBeginOut, toolArrival, toolArrivalRoom, toolArrivalOut, toolWait, toolWaitOut}
 use Rattle.host.proofs.UnitLaws.{length-unit, unit-none, unit-size}
 use Rattle.host.proofs.ToolLaws.{length-tool, tool-none, tool-size}
 
--- The state bytes b after a call with number n, whose next state is packed as p
-
-kept-refused : (n : ℕ) (p b : List ℕ) → (n ≡ 0 → ⊥) → b ≡ changedBy n p b
-kept-refused n p b r = rw (ne-eqb n 0 r)
-
--- packed bytes fill the whole buffer
-kept-accepted : (n : ℕ) (p b b′ : List ℕ) → n ≡ 0 → length b ≡ length p → b′ ≡ copied p b → b′ ≡ changedBy n p b
+-- The state bytes b after a call with number n that is not refused: the bytes p of its next state fill the whole buffer
+pub kept-accepted : (n : ℕ) (p b b′ : List ℕ) → (n ≡ 0 → length b ≡ length p) → n ≡ 0 → b′ ≡ copied p b → b′ ≡ changedBy n p b
 unfolding front
-kept-accepted n p b b′ z h e =
-    rw (eq-eqb n 0 z) (e ∙ copied-fits p b (omega arith) ∙ rw (drop-of-length-le b {i = length p} (omega arith), append-nil))
+kept-accepted n p b b′ h z e =
+    rw (eq-eqb n 0 z) (e ∙ copied-fits p b (omega (arith, h z)) ∙ rw (drop-of-length-le b {i = length p} (omega (arith, h z)), append-nil))
 
 -- a call that 11 would refuse was not made, if nothing was refused
 turn-taken : (is : Bool) (n before size : ℕ) (b : List ℕ) → (is ≡ true → length b ≡ size) → (is ≡ false → n ≡ orElse before 11) → n ≡ 0 → length b ≡ size
@@ -52,38 +49,31 @@ turn-taken false n before size b state none z = absurd (let e = or-zero before 1
 -- The unit
 
 -- bytes that are no state: "5, 11", whatever follows
-pub unit-impossible : (store : List ℕ) (room : ℕ) (b f : List ℕ) → isUnit b ≡ false → unitNumber lab store room (unpackedUnit b) f ≡ orElse (storeNumber narrow store) 11
+pub unit-impossible : (store : List ℕ) (room : ℕ) (b f : List ℕ) → isUnit b ≡ false
+    → unitNumber lab store room (unpackedUnit b) f ≡ orElse (storeNumber narrow store) 11
 unfolding unitNumber numberBefore unit-state.possible possibleAt
 unit-impossible store room b f h =
     rw (← unit-none b noUnit h refl) (or-refused (storeNumber narrow store) 11 (judged lab ends.Unit f) refl)
 
-pub step-state : (step : UnitReply) (u : UnitState) (store : List ℕ) (room : ℕ) (b f : List ℕ) → u ≡ unpackedUnit b → step ≡ unitResult lab store room u f → step .number ≡ 0 → length b ≡ 11
+pub step-state : (step : UnitReply) (u : UnitState) (store : List ℕ) (room : ℕ) (b f p : List ℕ) → u ≡ unpackedUnit b → step ≡ unitResult lab store room u f
+    → p ≡ packedUnit (step .state) → step .number ≡ 0
+    → length b ≡ length p
 unfolding unitResult
-step-state step u store room b f e q n =
-    turn-taken (isUnit b) (unitNumber lab store room (unpackedUnit b) f) (storeNumber narrow store) 11 b (unit-size b) (unit-impossible store room b f) (rw (← e) (ap (λ (s : UnitReply). s .number) (sym q) ∙ n))
-
--- what a step hands over: refused, or with its next state packed
-module _ (step : UnitReply) where
-  pub unit-hands : _≡_ {A = Written} (record { number = step .number; len = step .len }) (unitHanded step)
-  unfolding unitHanded
-  unit-hands = refl
-
-  pub unit-refused : (b : List ℕ) → (step .number ≡ 0 → ⊥) → b ≡ unitKept step b
-  unfolding unitKept
-  unit-refused b n = kept-refused (step .number) (packedUnit (step .state)) b n
-
-  pub unit-accepted : (b b′ : List ℕ) → (step .number ≡ 0 → length b ≡ 11) → step .number ≡ 0 → b′ ≡ copied (packedUnit (step .state)) b → b′ ≡ unitKept step b
-  unfolding unitKept
-  unit-accepted b b′ l n e = kept-accepted (step .number) (packedUnit (step .state)) b b′ n (l n ∙ sym (length-unit (step .state))) e
+step-state step u store room b f p e q k n =
+    rw (k, length-unit (step .state))
+    (turn-taken (isUnit b) (unitNumber lab store room (unpackedUnit b) f) (storeNumber narrow store) 11 b (unit-size b) (unit-impossible store room b f)
+    (rw (← e) (ap (λ (s : UnitReply). s .number) (sym q) ∙ n)))
 
 -- a step on the state u that the bytes are
 module _ (b : List ℕ) (u : UnitState) (e : u ≡ unpackedUnit b) (store f : List ℕ) where
   module _ (step : UnitReply) (room : ℕ) (q : step ≡ unitResult lab store room u f) where
-    pub step-handed : (w : Written) → w ≡ unitHanded step → w ≡ unitHanded (unitStep b store room f)
+    pub step-handed : (w : Written) → w ≡ record { number = step .number; len = step .len } → w ≡ unitHanded (unitStep b store room f)
+    unfolding unitHanded
     step-handed w k = rw (← e, ← q) k
 
-    pub step-kept : (b′ : List ℕ) → b′ ≡ unitKept step b → b′ ≡ unitKept (unitStep b store room f) b
-    step-kept b′ k = rw (← e, ← q) k
+    pub step-kept : (p b′ : List ℕ) → p ≡ packedUnit (step .state) → b′ ≡ changedBy (step .number) p b → b′ ≡ unitKept (unitStep b store room f) b
+    unfolding unitKept
+    step-kept p b′ i k = rw (← e, ← q, ← i) k
 
   pub step-reply : (reply reply′ : List ℕ) → reply′ ≡ unitOut lab store u f reply → reply′ ≡ unitStepReply b store f reply
   step-reply reply reply′ k = rw (← e) k
@@ -111,61 +101,61 @@ module _ (kind : ℕ) (b : List ℕ) where
     unfolding unitFreshNumber
     fresh-good h = rw (lt-ltb kind 3 k, le-leb 11 (length b) h)
 
-    pub fresh-good-packed : (u : UnitState) (b′ : List ℕ) → 11 ≤ length b → u ≡ freshUnit kind → b′ ≡ copied (packedUnit u) b → b′ ≡ unitFreshState kind b
+    pub fresh-good-packed : (u : UnitState) (p b′ : List ℕ) → 11 ≤ length b → u ≡ freshUnit kind → p ≡ packedUnit u → b′ ≡ copied p b
+        → b′ ≡ unitFreshState kind b
     unfolding unitFreshNumber unitFreshState
-    fresh-good-packed u b′ h e q =
-        rw (lt-ltb kind 3 k, le-leb 11 (length b) h, ← e) (q ∙ copied-fits (packedUnit u) b (omega (arith, length-unit u)))
+    fresh-good-packed u p b′ h e i q =
+        rw (lt-ltb kind 3 k, le-leb 11 (length b) h, ← e, ← i) (q ∙ copied-fits p b (omega (arith, ap length i, length-unit u)))
 
 -- The tool
 
 -- bytes that are no state: "12, 11" at a begin, 11 at an event, whatever follows
-pub begin-impossible : (request : Request) (name : AnswerName) (out : ℕ) (b : List ℕ) → isTool b ≡ false → beginNumber (unpackedTool b) request name out ≡ orElse (requestNumber request name) 11
+pub begin-impossible : (request : Request) (name : AnswerName) (out : ℕ) (b : List ℕ) → isTool b ≡ false
+    → beginNumber (unpackedTool b) request name out ≡ orElse (requestNumber request name) 11
 unfolding beginNumber
 begin-impossible request name out b h = rw (← tool-none b noTool h refl)
 
-pub event-impossible : (room out : ℕ) (b : List ℕ) → isTool b ≡ false → eventNumber (unpackedTool b) room out ≡ 11
+pub event-impossible : (roomLen outLen : ℕ) (b : List ℕ) → isTool b ≡ false → eventNumber (unpackedTool b) roomLen outLen ≡ 11
 unfolding eventNumber tool-state.possible
-event-impossible room out b h = rw (← tool-none b noTool h refl)
+event-impossible roomLen outLen b h = rw (← tool-none b noTool h refl)
 
-pub begin-state : (step : ToolStep) (t : ToolState) (request : Request) (name : AnswerName) (out : ℕ) (b : List ℕ) → t ≡ unpackedTool b → step ≡ beginResult lab t request name out → step .number ≡ 0 → length b ≡ 15
+pub begin-state : (step : ToolStep) (t : ToolState) (request : Request) (name : AnswerName) (out : ℕ) (b p : List ℕ) → t ≡ unpackedTool b
+    → step ≡ beginResult lab t request name out → p ≡ packedTool (step .state) → step .number ≡ 0
+    → length b ≡ length p
 unfolding beginResult
-begin-state step t request name out b e q n =
-    turn-taken (isTool b) (beginNumber (unpackedTool b) request name out) (requestNumber request name) 15 b (tool-size b) (begin-impossible request name out b) (rw (← e) (ap (λ (s : ToolStep). s .number) (sym q) ∙ n))
+begin-state step t request name out b p e q k n =
+    rw (k, length-tool (step .state))
+    (turn-taken (isTool b) (beginNumber (unpackedTool b) request name out) (requestNumber request name) 15 b (tool-size b) (begin-impossible request name out b)
+    (rw (← e) (ap (λ (s : ToolStep). s .number) (sym q) ∙ n)))
 
-pub event-state : (step : ToolStep) (t : ToolState) (m : Meaning) (new : List ℕ) (room out : ℕ) (b : List ℕ) → t ≡ unpackedTool b → step ≡ eventResult lab t m new room out → step .number ≡ 0 → length b ≡ 15
+pub event-state : (step : ToolStep) (t : ToolState) (m : Meaning) (new roomLen outLen : ℕ) (b p : List ℕ) → t ≡ unpackedTool b
+    → step ≡ eventResult lab t m new roomLen outLen → p ≡ packedTool (step .state) → step .number ≡ 0
+    → length b ≡ length p
 unfolding eventResult
-event-state step t m new room out b e q n =
-    turn-taken (isTool b) (eventNumber (unpackedTool b) room out) 0 15 b (tool-size b) (event-impossible room out b) (rw (← e) (ap (λ (s : ToolStep). s .number) (sym q) ∙ n))
-
--- what a step hands over: refused, or with its next state packed
-module _ (step : ToolStep) where
-  pub tool-hands : _≡_ {A = Written} (record { number = step .number; len = step .len }) (toolHanded step)
-  unfolding toolHanded
-  tool-hands = refl
-
-  pub tool-refuses : (b : List ℕ) → (step .number ≡ 0 → ⊥) → b ≡ toolKept step b
-  unfolding toolKept
-  tool-refuses b n = kept-refused (step .number) (packedTool (step .state)) b n
-
-  pub tool-accepts : (b b′ : List ℕ) → (step .number ≡ 0 → length b ≡ 15) → step .number ≡ 0 → b′ ≡ copied (packedTool (step .state)) b → b′ ≡ toolKept step b
-  unfolding toolKept
-  tool-accepts b b′ l n e = kept-accepted (step .number) (packedTool (step .state)) b b′ n (l n ∙ sym (length-tool (step .state))) e
+event-state step t m new roomLen outLen b p e q k n =
+    rw (k, length-tool (step .state))
+    (turn-taken (isTool b) (eventNumber (unpackedTool b) roomLen outLen) 0 15 b (tool-size b) (event-impossible roomLen outLen b)
+    (rw (← e) (ap (λ (s : ToolStep). s .number) (sym q) ∙ n)))
 
 -- an event on the state t that the bytes are
 module _ (b : List ℕ) (t : ToolState) (e : t ≡ unpackedTool b) (step : ToolStep) where
-  module _ (f : List ℕ) (room out : ℕ) (q : step ≡ arrivalResult lab t f room out) where
-    pub arrival-handed : (w : Written) → w ≡ toolHanded step → w ≡ toolHanded (toolArrival b f room out)
+  module _ (f : List ℕ) (roomLen outLen : ℕ) (q : step ≡ arrivalResult lab t f roomLen outLen) where
+    pub arrival-handed : (w : Written) → w ≡ record { number = step .number; len = step .len } → w ≡ toolHanded (toolArrival b f roomLen outLen)
+    unfolding toolHanded
     arrival-handed w k = rw (← e, ← q) k
 
-    pub arrival-kept : (b′ : List ℕ) → b′ ≡ toolKept step b → b′ ≡ toolKept (toolArrival b f room out) b
-    arrival-kept b′ k = rw (← e, ← q) k
+    pub arrival-kept : (p b′ : List ℕ) → p ≡ packedTool (step .state) → b′ ≡ changedBy (step .number) p b → b′ ≡ toolKept (toolArrival b f roomLen outLen) b
+    unfolding toolKept
+    arrival-kept p b′ i k = rw (← e, ← q, ← i) k
 
-  module _ (room out : ℕ) (q : step ≡ waitResult lab t room out) where
-    pub wait-handed : (w : Written) → w ≡ toolHanded step → w ≡ toolHanded (toolWait b room out)
+  module _ (roomLen outLen : ℕ) (q : step ≡ waitResult lab t roomLen outLen) where
+    pub wait-handed : (w : Written) → w ≡ record { number = step .number; len = step .len } → w ≡ toolHanded (toolWait b roomLen outLen)
+    unfolding toolHanded
     wait-handed w k = rw (← e, ← q) k
 
-    pub wait-kept : (b′ : List ℕ) → b′ ≡ toolKept step b → b′ ≡ toolKept (toolWait b room out) b
-    wait-kept b′ k = rw (← e, ← q) k
+    pub wait-kept : (p b′ : List ℕ) → p ≡ packedTool (step .state) → b′ ≡ changedBy (step .number) p b → b′ ≡ toolKept (toolWait b roomLen outLen) b
+    unfolding toolKept
+    wait-kept p b′ i k = rw (← e, ← q, ← i) k
 
 module _ (b : List ℕ) (t : ToolState) (e : t ≡ unpackedTool b) where
   pub arrival-room : (f : List ℕ) (out : ℕ) (room room′ : List ℕ) → room′ ≡ arrivalRoom lab t f out room → room′ ≡ toolArrivalRoom b f out room
@@ -197,11 +187,15 @@ module _ (b : List ℕ) (request : ℕ) (name : AnswerName) where
     unfolding toolBegin
     begun-by step out s = rw (le-leb request 5 h, ← e, ← q) s
 
-    pub begin-handed : (step : ToolStep) (out : ℕ) (w : Written) → step ≡ beginResult lab t r name out → w ≡ toolHanded step → w ≡ toolHanded (toolBegin b request name out)
-    begin-handed step out w s k = k ∙ ap toolHanded (begun-by step out s)
+    pub begin-handed : (step : ToolStep) (out : ℕ) (w : Written) → step ≡ beginResult lab t r name out → w ≡ record { number = step .number; len = step .len }
+        → w ≡ toolHanded (toolBegin b request name out)
+    unfolding toolHanded
+    begin-handed step out w s k = rw (← begun-by step out s) k
 
-    pub begin-kept : (step : ToolStep) (out : ℕ) (b′ : List ℕ) → step ≡ beginResult lab t r name out → b′ ≡ toolKept step b → b′ ≡ toolKept (toolBegin b request name out) b
-    begin-kept step out b′ s k = k ∙ ap (λ (x : ToolStep). toolKept x b) (begun-by step out s)
+    pub begin-kept : (step : ToolStep) (out : ℕ) (p b′ : List ℕ) → step ≡ beginResult lab t r name out → p ≡ packedTool (step .state)
+        → b′ ≡ changedBy (step .number) p b → b′ ≡ toolKept (toolBegin b request name out) b
+    unfolding toolKept
+    begin-kept step out p b′ s i k = rw (← begun-by step out s, ← i) k
 
     pub begin-out : (out out′ : List ℕ) → out′ ≡ beginOut lab t r name out → out′ ≡ toolBeginOut b request name out
     unfolding toolBeginOut
@@ -221,7 +215,7 @@ module _ (b : List ℕ) where
   unfolding toolFreshNumber
   tool-good h = rw (le-leb 15 (length b) h)
 
-  pub tool-good-packed : (t : ToolState) (b′ : List ℕ) → 15 ≤ length b → t ≡ tool-state.freshTool → b′ ≡ copied (packedTool t) b → b′ ≡ toolFreshState b
+  pub tool-good-packed : (t : ToolState) (p b′ : List ℕ) → 15 ≤ length b → t ≡ tool-state.freshTool → p ≡ packedTool t → b′ ≡ copied p b → b′ ≡ toolFreshState b
   unfolding toolFreshNumber toolFreshState
-  tool-good-packed t b′ h e q =
-      rw (le-leb 15 (length b) h, ← e) (q ∙ copied-fits (packedTool t) b (omega (arith, length-tool t)))
+  tool-good-packed t p b′ h e i q =
+      rw (le-leb 15 (length b) h, ← e, ← i) (q ∙ copied-fits p b (omega (arith, ap length i, length-tool t)))

@@ -4,9 +4,9 @@ use mathlib.Core.List.{List, []}
 use mathlib.Core.Path.{refl}
 use lib.ListN.{length}
 use Rattle.frame.specs.Frame.{lab}
-use Rattle.tool.specs.declared.Meaning.{Meaning}
-use Rattle.tool.specs.declared.Meaning.the-variants.{FailedWait}
-use Rattle.tool.specs.Event.{arrivalMeaning, arrivalBytes}
+use Rattle.arrival.specs.declared.Meaning.{Meaning}
+use Rattle.arrival.specs.declared.Meaning.the-variants.{FailedWait}
+use Rattle.arrival.specs.Meaning.{arrivalMeaning, arrivalBytes}
 use Rattle.host.specs.Packed.{unpackedTool}
 use Rattle.host.specs.Claims.{HostClaims}
 use Rattle.host.proofs.UnitLaws.{unit-back, unit-again}

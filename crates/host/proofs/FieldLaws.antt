@@ -29,7 +29,8 @@ pub field-two : (at n x y : ℕ) (b : List ℕ) → at + 2 ≤ length b → n �
 field-two at n x y b h e p q = read-two at b n 2 (omega arith) (omega arith) refl (e ∙ rw (p, q))
 
 -- a field is what its number is written as
-pub field-back : (width at : ℕ) (b : List ℕ) → ((i : ℕ) → getD b i 0 < 256) → fieldWidth width ≡ true → at + width ≤ length b → bytesOf width (numberAt width at b) ≡ bytesFrom width at b
+pub field-back : (width at : ℕ) (b : List ℕ) → ((i : ℕ) → getD b i 0 < 256) → fieldWidth width ≡ true → at + width ≤ length b
+    → bytesOf width (numberAt width at b) ≡ bytesFrom width at b
 unfolding numberAt
 field-back width at b bytes f h =
     rw (f, le-leb (at + width) (length b) h)

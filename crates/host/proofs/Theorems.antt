@@ -15,7 +15,7 @@ use Rattle.catalog.specs.declared.AnswerName.{AnswerName}
 use Rattle.store.specs.Layout.{narrow}
 use Rattle.store.specs.Check.{storeNumber}
 use Rattle.unit.specs.Call.{unitReply, unitResult, unitOut}
-use Rattle.tool.specs.declared.Meaning.{Meaning}
+use Rattle.arrival.specs.declared.Meaning.{Meaning}
 use Rattle.tool.specs.Call.{requestNumber, beginNumber, beginSent, beginResult, beginOut, eventSent, eventRoom, eventResult, eventOut}
 use Rattle.host.specs.Packed.{isUnit, requestFrom, isTool, unpackedTool}
 use Rattle.host.specs.Calls.{unitFreshNumber, unitFreshState, unitHanded, unitKept, unitStep, unitStepReply}
@@ -48,12 +48,12 @@ unit-no-state b store f reply s h =
 -- The tool: an arrival and a wait's end are events that mean m and add the new bytes
 
 module _ (b room out new : List ℕ) (m : Meaning) (n : ℕ)
-    (is : eventResult lab (unpackedTool b) m new (length room) (length out) .number ≡ n) (refused : n ≡ 0 → ⊥) where
-  pub event-refused-result : toolHanded (eventResult lab (unpackedTool b) m new (length room) (length out)) ≡ refusal n
+    (is : eventResult lab (unpackedTool b) m (length new) (length room) (length out) .number ≡ n) (refused : n ≡ 0 → ⊥) where
+  pub event-refused-result : toolHanded (eventResult lab (unpackedTool b) m (length new) (length room) (length out)) ≡ refusal n
   unfolding toolHanded eventResult eventSent
   event-refused-result = rw (is, ne-eqb n 0 refused)
 
-  pub event-refused-state : toolKept (eventResult lab (unpackedTool b) m new (length room) (length out)) b ≡ b
+  pub event-refused-state : toolKept (eventResult lab (unpackedTool b) m (length new) (length room) (length out)) b ≡ b
   unfolding toolKept eventResult
   event-refused-state = rw (is, ne-eqb n 0 refused)
 
@@ -66,7 +66,7 @@ module _ (b room out new : List ℕ) (m : Meaning) (n : ℕ)
   event-refused-out = rw (is, ne-eqb n 0 refused)
 
 pub event-no-state : (b room out new : List ℕ) (m : Meaning) → isTool b ≡ false
-    → toolHanded (eventResult lab (unpackedTool b) m new (length room) (length out)) ≡ refusal 11
+    → toolHanded (eventResult lab (unpackedTool b) m (length new) (length room) (length out)) ≡ refusal 11
 unfolding eventResult
 event-no-state b room out new m h =
     event-refused-result b room out new m 11 (event-impossible (length room) (length out) b h) (λ z. omega arith)

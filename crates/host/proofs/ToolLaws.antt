@@ -8,15 +8,14 @@ use lib.Dec.{eqb, leb}
 use lib.ListN.{length, getD}
 use borrow.Author.Tests.{le-leb, lt-leb, eq-eqb, ne-eqb, eqb-true, leb-true}
 use Rattle.octets.specs.BigEndian.{numberOf, bytesOf, numberAt}
-use Rattle.octets.specs.Buffer.{copied}
 use Rattle.octets.proofs.NumberLaws.{number-of-bytes}
 use Rattle.octets.proofs.Tests.{and-left, and-right}
 use Rattle.split.specs.Codes.{sub}
-use Rattle.tool.specs.declared.Request.{Request}
-use Rattle.tool.specs.declared.Request.the-variants as requests
-use Rattle.tool.specs.declared.Outcome.{Outcome}
-use Rattle.tool.specs.declared.Outcome.the-variants.{Fresh, Waiting, Done, NoAnswer, NoRoom, Refused}
-use Rattle.tool.specs.declared.ToolState.{ToolState}
+use Rattle.arrival.specs.declared.Request.{Request}
+use Rattle.arrival.specs.declared.Request.the-variants as requests
+use Rattle.arrival.specs.declared.Outcome.{Outcome}
+use Rattle.arrival.specs.declared.Outcome.the-variants.{Fresh, Waiting, Done, NoAnswer, NoRoom, Refused}
+use Rattle.arrival.specs.declared.ToolState.{ToolState}
 use Rattle.host.specs.Packed.{requestByte, requestFrom, outcomeByte, codeByte, outcomeFrom, packedTool, isTool, noTool, unpackedTool}
 use Rattle.host.proofs.FieldLaws.{spelled, field-two, field-back}
 
@@ -74,11 +73,14 @@ module _ (b : List ℕ) where
 
 -- Packing
 
-pub tool-packed : (t : ToolState) (x y code : ℕ) (o o′ : List ℕ) → x ≡ requestByte (t .request) → y ≡ outcomeByte (t .outcome) → code ≡ codeByte (t .outcome) →
-    o′ ≡ copied (x ∷ y ∷ code ∷ t .name .trep ∷ t .name .day / 256 / 256 / 256 % 256 ∷ t .name .day / 256 / 256 % 256 ∷ t .name .day / 256 % 256 ∷ t .name .day % 256 ∷ t .sendings ∷ t .expected .0 / 256 % 256 ∷ t .expected .0 % 256 ∷ t .held / 256 / 256 / 256 % 256 ∷ t .held / 256 / 256 % 256 ∷ t .held / 256 % 256 ∷ t .held % 256 ∷ []) o →
-    o′ ≡ copied (packedTool t) o
+pub tool-packed : (t : ToolState) (x y code : ℕ) → x ≡ requestByte (t .request) → y ≡ outcomeByte (t .outcome) → code ≡ codeByte (t .outcome)
+    → x ∷ y ∷ code ∷ t .name .trep
+    ∷ t .name .day / 256 / 256 / 256 % 256 ∷ t .name .day / 256 / 256 % 256 ∷ t .name .day / 256 % 256 ∷ t .name .day % 256
+    ∷ t .sendings ∷ t .expected .0 / 256 % 256 ∷ t .expected .0 % 256
+    ∷ t .held / 256 / 256 / 256 % 256 ∷ t .held / 256 / 256 % 256 ∷ t .held / 256 % 256 ∷ t .held % 256 ∷ []
+    ≡ packedTool t
 unfolding packedTool
-tool-packed t x y code o o′ p q r e = rw (← p, ← q, ← r) e
+tool-packed t x y code p q r = rw (← p, ← q, ← r)
 
 pub length-tool : (t : ToolState) → length (packedTool t) ≡ 15
 unfolding packedTool
@@ -132,7 +134,14 @@ outcome-kept t = rw (tool-is t, outcome-back (t .outcome))
 pub tool-back : (t : ToolState) → t .name .day < 4294967296 → t .expected .0 < 65536 → t .held < 4294967296 → unpackedTool (packedTool t) ≡ t
 unfolding unpackedTool packedTool numberAt
 tool-back t d e h =
-    rw (tool-is t, request-back (t .request), outcome-back (t .outcome), number-of-bytes 4 (t .name .day) d, number-of-bytes 2 (t .expected .0) e, number-of-bytes 4 (t .held) h)
+    rw (
+      tool-is t,
+      request-back (t .request),
+      outcome-back (t .outcome),
+      number-of-bytes 4 (t .name .day) d,
+      number-of-bytes 2 (t .expected .0) e,
+      number-of-bytes 4 (t .held) h,
+    )
 
 -- Bytes that are a state are what it is packed as
 
@@ -176,9 +185,14 @@ tool-again b bytes h =
     let n = and-right (leb (getD b 0 0) 5) _ m in
     let o : getD b 1 0 ≤ 5 = leb-true _ _ (and-left (leb (getD b 1 0) 5) _ n) in
     let k = code-again (getD b 2 0) (getD b 1 0) o (and-right (leb (getD b 1 0) 5) _ n) in
-    let e : packedTool (unpackedTool b) ≡ getD b 0 0 ∷ getD b 1 0 ∷ getD b 2 0 ∷ getD b 3 0 ∷ (bytesOf 4 (numberAt 4 4 b) ++ (getD b 8 0 ∷ (bytesOf 2 (numberAt 2 9 b) ++ bytesOf 4 (numberAt 4 11 b)))) =
+    let e :
+    packedTool (unpackedTool b)
+    ≡ getD b 0 0 ∷ getD b 1 0 ∷ getD b 2 0 ∷ getD b 3 0
+    ∷ (bytesOf 4 (numberAt 4 4 b) ++ (getD b 8 0 ∷ (bytesOf 2 (numberAt 2 9 b) ++ bytesOf 4 (numberAt 4 11 b)))) =
     rw (h, request-again (getD b 0 0) r, outcome-again (getD b 2 0) (getD b 1 0) o, k) in
     e
-    ∙ ap (λ (x : List ℕ). getD b 0 0 ∷ getD b 1 0 ∷ getD b 2 0 ∷ getD b 3 0 ∷ (x ++ (getD b 8 0 ∷ (bytesOf 2 (numberAt 2 9 b) ++ bytesOf 4 (numberAt 4 11 b))))) (field-back 4 4 b bytes refl (omega arith))
-    ∙ ap₂ (λ (x y : List ℕ). getD b 0 0 ∷ getD b 1 0 ∷ getD b 2 0 ∷ getD b 3 0 ∷ getD b 4 0 ∷ getD b 5 0 ∷ getD b 6 0 ∷ getD b 7 0 ∷ getD b 8 0 ∷ (x ++ y)) (field-back 2 9 b bytes refl (omega arith)) (field-back 4 11 b bytes refl (omega arith))
+    ∙ ap (λ (x : List ℕ). getD b 0 0 ∷ getD b 1 0 ∷ getD b 2 0 ∷ getD b 3 0 ∷ (x ++ (getD b 8 0 ∷ (bytesOf 2 (numberAt 2 9 b) ++ bytesOf 4 (numberAt 4 11 b)))))
+    (field-back 4 4 b bytes refl (omega arith))
+    ∙ ap₂ (λ (x y : List ℕ). getD b 0 0 ∷ getD b 1 0 ∷ getD b 2 0 ∷ getD b 3 0 ∷ getD b 4 0 ∷ getD b 5 0 ∷ getD b 6 0 ∷ getD b 7 0 ∷ getD b 8 0 ∷ (x ++ y))
+    (field-back 2 9 b bytes refl (omega arith)) (field-back 4 11 b bytes refl (omega arith))
     ∙ spelled 15 b l

@@ -8,16 +8,15 @@ use lib.Dec.{eqb, leb}
 use lib.ListN.{length, getD}
 use borrow.Author.Tests.{le-leb, lt-leb, eq-eqb, ne-eqb, eqb-true}
 use Rattle.octets.specs.BigEndian.{numberOf, bytesOf, numberAt}
-use Rattle.octets.specs.Buffer.{copied}
 use Rattle.octets.proofs.NumberLaws.{number-of-bytes}
 use Rattle.octets.proofs.Tests.{and-left, and-right, never}
 use Rattle.catalog.specs.declared.AnswerName.{AnswerName}
 use Rattle.split.specs.declared.SubMessage.{SubMessage}
 use Rattle.split.specs.Codes.{sub}
-use Rattle.tool.specs.State.{noName}
 use Rattle.services.specs.declared.Phase.{Phase}
 use Rattle.services.specs.declared.Phase.the-variants.{Closed, Started, Session, Granted, Sending}
 use Rattle.services.specs.declared.UnitState.{UnitState}
+use Rattle.arrival.specs.State.{noName}
 use Rattle.host.specs.Packed.{phaseByte, phaseFrom, nameSent, lastSent, packedUnit, unitName, unitLast, sendsNothing, isUnit, noUnit, unpackedUnit}
 use Rattle.host.proofs.FieldLaws.{spelled, field-two, field-back}
 
@@ -78,12 +77,12 @@ module _ (b : List ℕ) where
 
 -- Packing
 
-pub unit-packed : (u : UnitState) (byte : ℕ) (name : AnswerName) (last : SubMessage) (o o′ : List ℕ) → byte ≡ phaseByte (u .phase) → name ≡ nameSent (u .phase)
-    → last ≡ lastSent (u .phase) →
-    o′ ≡ copied (u .kind ∷ u .rate ∷ u .pending ∷ byte ∷ name .trep ∷ name .day / 256 / 256 / 256 % 256 ∷ name .day / 256 / 256 % 256 ∷ name .day / 256 % 256 ∷ name .day % 256 ∷ last .0 / 256 % 256 ∷ last .0 % 256 ∷ []) o →
-    o′ ≡ copied (packedUnit u) o
+pub unit-packed : (u : UnitState) (byte : ℕ) (name : AnswerName) (last : SubMessage) → byte ≡ phaseByte (u .phase) → name ≡ nameSent (u .phase) → last ≡ lastSent (u .phase)
+    → u .kind ∷ u .rate ∷ u .pending ∷ byte ∷ name .trep ∷ name .day / 256 / 256 / 256 % 256 ∷ name .day / 256 / 256 % 256 ∷ name .day / 256 % 256 ∷ name .day % 256
+    ∷ last .0 / 256 % 256 ∷ last .0 % 256 ∷ []
+    ≡ packedUnit u
 unfolding packedUnit
-unit-packed u byte name last o o′ p q r e = rw (← p, ← q, ← r) e
+unit-packed u byte name last p q r = rw (← p, ← q, ← r)
 
 pub length-unit : (u : UnitState) → length (packedUnit u) ≡ 11
 unfolding packedUnit

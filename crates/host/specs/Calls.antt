@@ -1,4 +1,5 @@
--- The unit's and the tool's calls on packed states: the state is unpacked, the call is made on it, and the next state is packed only where
+-- The unit's and the tool's calls on packed states: the state is unpacked, the call is made on it, and the next state
+-- is packed only where
 -- nothing is refused ("Each returns its number with the state as handed in, and writes nothing").
 use Prim.Native.Nat.{ℕ}
 use mathlib.Core.List.{List}
@@ -14,7 +15,7 @@ use Rattle.unit.specs.declared.UnitReply.{UnitReply}
 use Rattle.services.specs.State.{freshUnit}
 use Rattle.unit.specs.Call.{unitResult, unitOut}
 use Rattle.tool.specs.declared.ToolStep.{ToolStep}
-use Rattle.tool.specs.State.{freshTool}
+use Rattle.arrival.specs.State.{freshTool}
 use Rattle.tool.specs.Call.{beginResult, beginOut, arrivalResult, arrivalRoom, arrivalOut, waitResult, waitOut}
 use Rattle.host.specs.Packed.{unitSize, packedUnit, unpackedUnit, toolSize, requestFrom, packedTool, unpackedTool}
 
@@ -50,7 +51,7 @@ unitStepReply state store frame reply = unitOut lab store (unpackedUnit state) f
 
 -- 4: too short
 unfoldable pub toolFreshNumber : ℕ → ℕ
-toolFreshNumber room = unless (leb toolSize room) bufferShort done
+toolFreshNumber stateLen = unless (leb toolSize stateLen) bufferShort done
 
 unfoldable pub toolFreshState : List ℕ → List ℕ
 toolFreshState state = changedBy (toolFreshNumber (length state)) (front (packedTool freshTool) state) state
@@ -63,26 +64,26 @@ toolKept step state = changedBy (step .number) (packedTool (step .state)) state
 
 -- "12: answer or request not in the table": a request above 5 is none
 unfoldable pub toolBegin : List ℕ → ℕ → AnswerName → ℕ → ToolStep
-toolBegin state request name out =
+toolBegin state request name outLen =
     unless (leb request 5) (record { number = notInTable; state = unpackedTool state; len = 0 })
-    (beginResult lab (unpackedTool state) (requestFrom request) name out)
+    (beginResult lab (unpackedTool state) (requestFrom request) name outLen)
 
 unfoldable pub toolBeginOut : List ℕ → ℕ → AnswerName → List ℕ → List ℕ
 toolBeginOut state request name out =
     unless (leb request 5) out (beginOut lab (unpackedTool state) (requestFrom request) name out)
 
--- events, with a room of room bytes and an output of out bytes
+-- events, with a room of roomLen bytes and an output of outLen bytes
 abbrev pub toolArrival : List ℕ → List ℕ → ℕ → ℕ → ToolStep
-toolArrival state frame room out = arrivalResult lab (unpackedTool state) frame room out
+toolArrival state frame roomLen outLen = arrivalResult lab (unpackedTool state) frame roomLen outLen
 
 abbrev pub toolArrivalRoom : List ℕ → List ℕ → ℕ → List ℕ → List ℕ
-toolArrivalRoom state frame out room = arrivalRoom lab (unpackedTool state) frame out room
+toolArrivalRoom state frame outLen room = arrivalRoom lab (unpackedTool state) frame outLen room
 
 abbrev pub toolArrivalOut : List ℕ → List ℕ → ℕ → List ℕ → List ℕ
-toolArrivalOut state frame room out = arrivalOut lab (unpackedTool state) frame room out
+toolArrivalOut state frame roomLen out = arrivalOut lab (unpackedTool state) frame roomLen out
 
 abbrev pub toolWait : List ℕ → ℕ → ℕ → ToolStep
-toolWait state room out = waitResult lab (unpackedTool state) room out
+toolWait state roomLen outLen = waitResult lab (unpackedTool state) roomLen outLen
 
 abbrev pub toolWaitOut : List ℕ → ℕ → List ℕ → List ℕ
-toolWaitOut state room out = waitOut lab (unpackedTool state) room out
+toolWaitOut state roomLen out = waitOut lab (unpackedTool state) roomLen out

@@ -14,7 +14,7 @@ use Rattle.store.specs.Check.{storeNumber}
 use Rattle.octets.specs.Buffer.{Bytes}
 use Rattle.services.specs.declared.UnitState.{UnitState}
 use Rattle.unit.specs.declared.UnitReply.{UnitReply}
-use Rattle.tool.specs.declared.ToolState.{ToolState}
+use Rattle.arrival.specs.declared.ToolState.{ToolState}
 use Rattle.tool.specs.declared.ToolStep.{ToolStep}
 use Rattle.tool.specs.Call.{requestNumber}
 use Rattle.host.specs.Packed.{nameSent, lastSent, packedUnit, isUnit, unpackedUnit}

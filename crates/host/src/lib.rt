@@ -1,7 +1,9 @@
-// The calls for C hosts on numbers and byte slices (host/include/tacho.h). Every call is total; the states of unit and tool are packed bytes.
+// The calls for C hosts on numbers and byte slices (host/include/tacho.h). Every call is total; the states of unit and
+// tool are packed bytes.
 pub mod arrays;
 pub mod bench_store;
 pub mod frames;
+mod hand;
 mod pack_tool;
 mod pack_unit;
 pub mod readers;

@@ -1,14 +1,14 @@
 // The tool's state in 15 bytes: request, outcome, wire code, TREP, day (4), sendings, expected (2), held (4).
+use arrival::Outcome;
+use arrival::Request;
+use arrival::ToolState;
 use catalog::AnswerName;
 use octets::big_endian::byte_at;
 use octets::big_endian::number_at;
 use split::SubMessage;
-use tool::Outcome;
-use tool::Request;
-use tool::ToolState;
 ghost use mathlib.Core.Path.{_≡_};
-ghost use Rattle.octets.specs.Buffer.{copied};
-ghost use Rattle.host.specs.Packed.{requestByte, requestFrom, outcomeByte, codeByte, outcomeFrom, packedTool, isTool, noTool, unpackedTool};
+ghost use Rattle.host.specs.Packed.{requestByte, requestFrom, outcomeByte, codeByte, outcomeFrom, packedTool};
+ghost use Rattle.host.specs.Packed.{isTool, noTool, unpackedTool};
 
 // The bytes of a packed state.
 pub(crate) const SIZE: usize = 15;
@@ -94,16 +94,16 @@ fn outcome_from(byte: u8, code: u8) -> Outcome
     Outcome::Refused(code)
 }
 
-// Packs a state into the first 15 bytes of `out`; nothing where it is shorter.
-pub(crate) fn pack(state: ToolState, out: &mut [u8])
-    ensures { λ _. ⌜ now (out .exit) ≡ copied (packedTool state) (now (out .entry)) ⌝ }
+// The bytes of a state.
+pub(crate) fn pack(state: ToolState) -> [u8; SIZE]
+    ensures { λ r. ⌜ r ≡ packedTool state ⌝ }
 {
     let request = state.request;
     let outcome = state.outcome;
     let day = state.name.day;
     let expected = state.expected.0;
     let held = state.held;
-    let bytes = [
+    [
         request_byte(request),
         outcome_byte(outcome),
         code_byte(outcome),
@@ -119,8 +119,7 @@ pub(crate) fn pack(state: ToolState, out: &mut [u8])
         (held / 256 / 256 % 256) as u8,
         (held / 256 % 256) as u8,
         (held % 256) as u8,
-    ];
-    octets::buffer::copy_in(out, &bytes);
+    ]
 }
 
 pub(crate) fn is_state(bytes: &[u8]) -> bool
@@ -169,7 +168,10 @@ pub(crate) fn unpack(bytes: &[u8]) -> ToolState
             day: number_at(bytes, 4, 4),
         },
         sendings: byte_at(bytes, 8),
-        expected: SubMessage(octets::big_endian::two(byte_at(bytes, 9), byte_at(bytes, 10))),
+        expected: SubMessage(octets::big_endian::number_of_two(
+            byte_at(bytes, 9),
+            byte_at(bytes, 10),
+        )),
         held: number_at(bytes, 11, 4),
     }
 }

@@ -67,15 +67,15 @@ fn last_sent(phase: Phase) -> SubMessage
     }
 }
 
-// Packs a state into the first 11 bytes of `out`; nothing where it is shorter.
-pub(crate) fn pack(state: UnitState, out: &mut [u8])
-    ensures { λ _. ⌜ now (out .exit) ≡ copied (packedUnit state) (now (out .entry)) ⌝ }
+// The bytes of a state.
+pub(crate) fn pack(state: UnitState) -> [u8; SIZE]
+    ensures { λ r. ⌜ r ≡ packedUnit state ⌝ }
 {
     let phase = state.phase;
     let name = name_sent(phase);
     let day = name.day;
     let last = last_sent(phase).0;
-    let bytes = [
+    [
         state.kind,
         state.rate,
         state.pending,
@@ -87,8 +87,7 @@ pub(crate) fn pack(state: UnitState, out: &mut [u8])
         (day % 256) as u8,
         (last / 256 % 256) as u8,
         (last % 256) as u8,
-    ];
-    octets::buffer::copy_in(out, &bytes);
+    ]
 }
 
 pub(crate) fn is_state(bytes: &[u8]) -> bool
@@ -134,7 +133,7 @@ pub(crate) fn unpack(bytes: &[u8]) -> UnitState
         trep: byte_at(bytes, 4),
         day: number_at(bytes, 5, 4),
     };
-    let last = SubMessage(octets::big_endian::two(byte_at(bytes, 9), byte_at(bytes, 10)));
+    let last = SubMessage(octets::big_endian::number_of_two(byte_at(bytes, 9), byte_at(bytes, 10)));
     UnitState {
         kind: byte_at(bytes, 0),
         rate: byte_at(bytes, 1),

@@ -2,17 +2,12 @@
 use crate::pack_tool::code_byte;
 use crate::pack_tool::outcome_byte;
 use crate::pack_unit::phase_byte;
+use octets::big_endian::usize_of;
 ghost use mathlib.Core.Path.{_≡_};
 ghost use Rattle.host.specs.Readers.{unitKind, unitRate, unitPhase, toolOutcome, toolCode, toolExpected, toolHeld};
 
 // No number of a state.
 const NO_STATE: usize = 0xFFFFFFFFFFFFFFFF;
-
-fn wide(x: u8) -> usize
-    ensures { λ r. ⌜ r ≡ x ⌝ }
-{
-    x as usize
-}
 
 // The kind of a unit.
 #[no_mangle]
@@ -23,7 +18,7 @@ pub extern "C" fn tacho_unit_kind(state: &[u8]) -> usize
         return NO_STATE;
     }
     let unit = crate::pack_unit::unpack(state);
-    wide(unit.kind)
+    usize_of(unit.kind)
 }
 
 // Its baud rate, 1 to 5.
@@ -35,7 +30,7 @@ pub extern "C" fn tacho_unit_rate(state: &[u8]) -> usize
         return NO_STATE;
     }
     let unit = crate::pack_unit::unpack(state);
-    wide(unit.rate)
+    usize_of(unit.rate)
 }
 
 // Its phase.
@@ -48,7 +43,7 @@ pub extern "C" fn tacho_unit_phase(state: &[u8]) -> usize
     }
     let unit = crate::pack_unit::unpack(state);
     let phase = unit.phase;
-    wide(phase_byte(phase))
+    usize_of(phase_byte(phase))
 }
 
 // How the tool's request stands.
@@ -61,7 +56,7 @@ pub extern "C" fn tacho_tool_outcome(state: &[u8]) -> usize
     }
     let tool = crate::pack_tool::unpack(state);
     let outcome = tool.outcome;
-    wide(outcome_byte(outcome))
+    usize_of(outcome_byte(outcome))
 }
 
 // The wire code that ended it, 0 for none.
@@ -74,7 +69,7 @@ pub extern "C" fn tacho_tool_code(state: &[u8]) -> usize
     }
     let tool = crate::pack_tool::unpack(state);
     let outcome = tool.outcome;
-    wide(code_byte(outcome))
+    usize_of(code_byte(outcome))
 }
 
 // The sub message that it expects.

@@ -3,10 +3,11 @@ use catalog::AnswerName;
 use octets::Written;
 use octets::numbers::BUFFER_SHORT;
 use octets::numbers::NOT_IN_TABLE;
-use tool::ToolStep;
 ghost use mathlib.Core.Path.{_≡_};
 ghost use lib.ListN.{length};
-ghost use Rattle.host.specs.Calls.{toolFreshNumber, toolFreshState, toolHanded, toolKept, toolBegin, toolBeginOut, toolArrival, toolArrivalRoom, toolArrivalOut, toolWait, toolWaitOut};
+ghost use Rattle.host.specs.Calls.{toolFreshNumber, toolFreshState, toolHanded, toolKept};
+ghost use Rattle.host.specs.Calls.{toolBegin, toolBeginOut, toolArrival, toolArrivalRoom, toolArrivalOut};
+ghost use Rattle.host.specs.Calls.{toolWait, toolWaitOut};
 
 // The state of a tool that has begun nothing. 4 for too few bytes.
 #[no_mangle]
@@ -17,24 +18,8 @@ pub extern "C" fn tacho_tool_fresh(state: &mut [u8]) -> u8
     if state.len() < crate::pack_tool::SIZE {
         return BUFFER_SHORT;
     }
-    crate::pack_tool::pack(tool::state::fresh(), state);
+    octets::buffer::copy_in(state, &crate::pack_tool::pack(arrival::state::fresh()));
     0
-}
-
-// What a step hands to the host. The next state is packed only where nothing is refused; then the bytes were a state.
-fn hand(step: ToolStep, state: &mut [u8]) -> Written
-    requires { ⌜ (step .number ≡ 0 → length (now state) ≡ 15) ⌝ }
-    ensures { λ r. ⌜ r ≡ toolHanded step ⌝ }
-    ensures { λ _. ⌜ now (state .exit) ≡ toolKept step (now (state .entry)) ⌝ }
-{
-    let number = step.number;
-    let len = step.len;
-    if number != 0 {
-        return Written { number, len };
-    }
-    let next = step.state;
-    crate::pack_tool::pack(next, state);
-    Written { number, len }
 }
 
 // Begins a request: 0 start, 1 session, 2 upload, 3 exit, 4 stop, 5 transfer. Refused by 12, 11 and 4, in this order.
@@ -46,9 +31,15 @@ pub extern "C" fn tacho_tool_begin(
     day: u32,
     out: &mut [u8],
 ) -> Written
-    ensures { λ r. ⌜ r ≡ toolHanded (toolBegin (now (state .entry)) request (record { trep = trep; day = day }) (length (now (out .entry)))) ⌝ }
-    ensures { λ _. ⌜ now (state .exit) ≡ toolKept (toolBegin (now (state .entry)) request (record { trep = trep; day = day }) (length (now (out .entry)))) (now (state .entry)) ⌝ }
-    ensures { λ _. ⌜ now (out .exit) ≡ toolBeginOut (now (state .entry)) request (record { trep = trep; day = day }) (now (out .entry)) ⌝ }
+    ensures { λ r. ⌜ r ≡
+        toolHanded
+        (toolBegin (now (state .entry)) request (record { trep = trep; day = day }) (length (now (out .entry)))) ⌝ }
+    ensures { λ _. ⌜ now (state .exit) ≡
+        toolKept
+        (toolBegin (now (state .entry)) request (record { trep = trep; day = day }) (length (now (out .entry))))
+        (now (state .entry)) ⌝ }
+    ensures { λ _. ⌜ now (out .exit) ≡
+        toolBeginOut (now (state .entry)) request (record { trep = trep; day = day }) (now (out .entry)) ⌝ }
 {
     if 5 < request {
         return Written {
@@ -59,7 +50,8 @@ pub extern "C" fn tacho_tool_begin(
     let was = crate::pack_tool::unpack(state);
     let asked = crate::pack_tool::request_from(request);
     let step = tool::call::begin(was, asked, AnswerName { trep, day }, out);
-    hand(step, state)
+    let next = step.state;
+    crate::hand::hand(step.number, step.len, &crate::pack_tool::pack(next), state)
 }
 
 // A frame arrived, good or not. Refused by 11 and 4, in this order.
@@ -70,24 +62,38 @@ pub extern "C" fn tacho_tool_arrived(
     room: &mut [u8],
     out: &mut [u8],
 ) -> Written
-    ensures { λ r. ⌜ r ≡ toolHanded (toolArrival (now (state .entry)) (now (frame .entry)) (length (now (room .entry))) (length (now (out .entry)))) ⌝ }
-    ensures { λ _. ⌜ now (state .exit) ≡ toolKept (toolArrival (now (state .entry)) (now (frame .entry)) (length (now (room .entry))) (length (now (out .entry)))) (now (state .entry)) ⌝ }
-    ensures { λ _. ⌜ now (room .exit) ≡ toolArrivalRoom (now (state .entry)) (now (frame .entry)) (length (now (out .entry))) (now (room .entry)) ⌝ }
-    ensures { λ _. ⌜ now (out .exit) ≡ toolArrivalOut (now (state .entry)) (now (frame .entry)) (length (now (room .entry))) (now (out .entry)) ⌝ }
+    ensures { λ r. ⌜ r ≡
+        toolHanded
+        (toolArrival (now (state .entry)) (now (frame .entry)) (length (now (room .entry))) (length (now (out .entry))))
+        ⌝ }
+    ensures { λ _. ⌜ now (state .exit) ≡
+        toolKept
+        (toolArrival (now (state .entry)) (now (frame .entry)) (length (now (room .entry))) (length (now (out .entry))))
+        (now (state .entry)) ⌝ }
+    ensures { λ _. ⌜ now (room .exit) ≡
+        toolArrivalRoom (now (state .entry)) (now (frame .entry)) (length (now (out .entry))) (now (room .entry)) ⌝ }
+    ensures { λ _. ⌜ now (out .exit) ≡
+        toolArrivalOut (now (state .entry)) (now (frame .entry)) (length (now (room .entry))) (now (out .entry)) ⌝ }
 {
     let was = crate::pack_tool::unpack(state);
     let step = tool::call::arrived(was, frame, room, out);
-    hand(step, state)
+    let next = step.state;
+    crate::hand::hand(step.number, step.len, &crate::pack_tool::pack(next), state)
 }
 
 // The wait for a frame ended; the room is only looked at. Refused by 11 and 4, in this order.
 #[no_mangle]
 pub extern "C" fn tacho_tool_wait_ended(state: &mut [u8], room: &[u8], out: &mut [u8]) -> Written
-    ensures { λ r. ⌜ r ≡ toolHanded (toolWait (now (state .entry)) (length (now (room .entry))) (length (now (out .entry)))) ⌝ }
-    ensures { λ _. ⌜ now (state .exit) ≡ toolKept (toolWait (now (state .entry)) (length (now (room .entry))) (length (now (out .entry)))) (now (state .entry)) ⌝ }
-    ensures { λ _. ⌜ now (out .exit) ≡ toolWaitOut (now (state .entry)) (length (now (room .entry))) (now (out .entry)) ⌝ }
+    ensures { λ r. ⌜ r ≡
+        toolHanded (toolWait (now (state .entry)) (length (now (room .entry))) (length (now (out .entry)))) ⌝ }
+    ensures { λ _. ⌜ now (state .exit) ≡
+        toolKept (toolWait (now (state .entry)) (length (now (room .entry))) (length (now (out .entry))))
+        (now (state .entry)) ⌝ }
+    ensures { λ _. ⌜ now (out .exit) ≡
+        toolWaitOut (now (state .entry)) (length (now (room .entry))) (now (out .entry)) ⌝ }
 {
     let was = crate::pack_tool::unpack(state);
     let step = tool::call::wait_ended(was, room, out);
-    hand(step, state)
+    let next = step.state;
+    crate::hand::hand(step.number, step.len, &crate::pack_tool::pack(next), state)
 }

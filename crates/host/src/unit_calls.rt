@@ -2,7 +2,6 @@
 use octets::Written;
 use octets::numbers::BUFFER_SHORT;
 use octets::numbers::OUT_OF_TURN;
-use unit::UnitReply;
 ghost use mathlib.Core.Path.{_≡_};
 ghost use lib.ListN.{length};
 ghost use Rattle.host.specs.Calls.{unitFreshNumber, unitFreshState, unitHanded, unitKept, unitStep};
@@ -20,24 +19,8 @@ pub extern "C" fn tacho_unit_fresh(kind: u8, state: &mut [u8]) -> u8
     if state.len() < crate::pack_unit::SIZE {
         return BUFFER_SHORT;
     }
-    crate::pack_unit::pack(services::state::fresh(kind), state);
+    octets::buffer::copy_in(state, &crate::pack_unit::pack(services::state::fresh(kind)));
     0
-}
-
-// What a step hands to the host. The next state is packed only where nothing is refused; then the bytes were a state.
-fn hand(step: UnitReply, state: &mut [u8]) -> Written
-    requires { ⌜ (step .number ≡ 0 → length (now state) ≡ 11) ⌝ }
-    ensures { λ r. ⌜ r ≡ unitHanded step ⌝ }
-    ensures { λ _. ⌜ now (state .exit) ≡ unitKept step (now (state .entry)) ⌝ }
-{
-    let number = step.number;
-    let len = step.len;
-    if number != 0 {
-        return Written { number, len };
-    }
-    let next = step.state;
-    crate::pack_unit::pack(next, state);
-    Written { number, len }
 }
 
 // The unit hears a frame. Refused by 5, 11, 4 and the frame's numbers, in this order; then state and reply stay.
@@ -54,5 +37,6 @@ pub extern "C" fn tacho_unit_step(
 {
     let was = crate::pack_unit::unpack(state);
     let step = unit::call::step(was, store, frame, reply);
-    hand(step, state)
+    let next = step.state;
+    crate::hand::hand(step.number, step.len, &crate::pack_unit::pack(next), state)
 }

@@ -7,7 +7,7 @@ ghost use Rattle.octets.specs.BigEndian.{numberOf, bytesOf, numberAt, wi
 ghost use Rattle.octets.specs.Buffer.{put};
 
 // A byte as a length or an index.
-pub fn wide(byte: u8) -> usize
+pub fn usize_of(byte: u8) -> usize
     ensures { λ r. ⌜ (r ≡ byte) × (r < 256) ⌝ }
 {
     byte as usize
@@ -23,24 +23,24 @@ pub fn byte_at(bytes: &[u8], at: usize) -> u8
     0
 }
 
-fn long(byte: u8) -> u32
+fn u32_of(byte: u8) -> u32
     ensures { λ r. ⌜ (r ≡ byte) × (r < 256) ⌝ }
 {
     byte as u32
 }
 
 // The number in two bytes.
-pub fn two(high: u8, low: u8) -> u16
+pub fn number_of_two(high: u8, low: u8) -> u16
     ensures { λ r. ⌜ r ≡ numberOf (high ∷ low ∷ []) ⌝ }
 {
     (high as u16) * 256 + (low as u16)
 }
 
 // The number in four bytes.
-pub fn four(a: u8, b: u8, c: u8, d: u8) -> u32
+pub fn number_of_four(a: u8, b: u8, c: u8, d: u8) -> u32
     ensures { λ r. ⌜ r ≡ numberOf (a ∷ b ∷ c ∷ d ∷ []) ⌝ }
 {
-    ((long(a) * 256 + long(b)) * 256 + long(c)) * 256 + long(d)
+    ((u32_of(a) * 256 + u32_of(b)) * 256 + u32_of(c)) * 256 + u32_of(d)
 }
 
 // The number in the `width` bytes from `at` on: 0 for a width other than 2 and 4, and where the bytes end before.
@@ -55,10 +55,10 @@ pub fn number_at(bytes: &[u8], at: usize, width: usize) -> u32
         return 0;
     }
     if width == 2 {
-        return two(bytes[at], bytes[at + 1]) as u32;
+        return number_of_two(bytes[at], bytes[at + 1]) as u32;
     }
     if width == 4 {
-        return four(bytes[at], bytes[at + 1], bytes[at + 2], bytes[at + 3]);
+        return number_of_four(bytes[at], bytes[at + 1], bytes[at + 2], bytes[at + 3]);
     }
     0
 }

@@ -20,14 +20,14 @@ use Rattle.services.specs.State.{freshUnit}
 use Rattle.services.specs.After.{stateAfter}
 use Rattle.unit.specs.Call.{reactionTo, unitNumber, unitState, unitReply, unitResult, unitOut}
 use Rattle.unit.proofs.BoundLaws as units
-use Rattle.tool.specs.declared.Request.{Request}
-use Rattle.tool.specs.declared.Meaning.{Meaning}
-use Rattle.tool.specs.declared.Meaning.the-variants.{FailedWait}
-use Rattle.tool.specs.declared.ToolState.{ToolState}
-use Rattle.tool.specs.State.{freshTool, isWaiting}
-use Rattle.tool.specs.Event.{arrivalMeaning, arrivalBytes, stateAfter as toolAfter}
-use Rattle.tool.specs.Call.{begun, beginNumber, beginState, beginSent, beginResult, beginOut, eventNumber, eventState, eventSent, eventRoom, eventResult}
-use Rattle.tool.specs.Call.{eventOut, arrivalResult, arrivalRoom, arrivalOut, waitResult, waitOut}
+use Rattle.arrival.specs.declared.Request.{Request}
+use Rattle.arrival.specs.declared.Meaning.{Meaning}
+use Rattle.arrival.specs.declared.Meaning.the-variants.{FailedWait}
+use Rattle.arrival.specs.declared.ToolState.{ToolState}
+use Rattle.arrival.specs.State.{freshTool, isWaiting}
+use Rattle.arrival.specs.Meaning.{arrivalMeaning, arrivalBytes}
+use Rattle.tool.specs.After.{stateAfter as toolAfter}
+use Rattle.tool.specs.Call.{begun, beginNumber, beginState, beginSent, beginResult, beginOut, eventNumber, eventState, eventSent, eventRoom, eventResult, eventOut, arrivalResult, arrivalRoom, arrivalOut, waitResult, waitOut}
 use Rattle.tool.proofs.BoundLaws as tools
 use Rattle.host.specs.Packed.{phaseFrom, nameSent, lastSent, packedUnit, unitName, unitLast, isUnit, unpackedUnit, requestFrom, packedTool, isTool}
 use Rattle.host.specs.Packed.{unpackedTool}

@@ -14,7 +14,7 @@ use Rattle.services.specs.declared.UnitState.{UnitState}
 use Rattle.services.specs.State.{possibleAt}
 use Rattle.unit.specs.State as unitStates
 use Rattle.unit.proofs.BoundLaws as unitBounds
-use Rattle.tool.specs.declared.Request.the-variants as requests
+use Rattle.arrival.specs.declared.Request.the-variants as requests
 use Rattle.tool.specs.Call.{beginNumber, beginState, beginSent, beginResult}
 use Rattle.tool.proofs.BoundLaws as toolBounds
 use Rattle.host.specs.Packed.{packedUnit, isUnit, noUnit, unpackedUnit, requestFrom, packedTool, unpackedTool}

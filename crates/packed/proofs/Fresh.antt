@@ -22,9 +22,9 @@ use Rattle.services.specs.Services.{onSession, onUpload}
 use Rattle.services.specs.After.{stateAfter}
 use Rattle.unit.specs.Call.{reactionTo, unitNumber, unitState, unitResult}
 use Rattle.unit.proofs.BoundLaws as units
-use Rattle.tool.specs.declared.Request.{Request}
-use Rattle.tool.specs.declared.Request.the-variants as requests
-use Rattle.tool.specs.State.{freshTool, noName}
+use Rattle.arrival.specs.declared.Request.{Request}
+use Rattle.arrival.specs.declared.Request.the-variants as requests
+use Rattle.arrival.specs.State.{freshTool, noName}
 use Rattle.tool.specs.Sent.{frameSent}
 use Rattle.tool.specs.Call.{requestNumber, beginNumber, beginResult}
 use Rattle.host.specs.Packed.{packedUnit, unpackedUnit, requestFrom}

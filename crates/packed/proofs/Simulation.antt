@@ -15,10 +15,10 @@ use Rattle.services.specs.State.{freshUnit}
 use Rattle.services.specs.After.{stateAfter}
 use Rattle.unit.specs.Call.{reactionTo, unitNumber, unitState, unitResult}
 use Rattle.unit.proofs.BoundLaws as units
-use Rattle.tool.specs.declared.ToolState.{ToolState}
-use Rattle.tool.specs.declared.Meaning.{Meaning}
-use Rattle.tool.specs.State.{freshTool}
-use Rattle.tool.specs.Event.{stateAfter as toolAfter}
+use Rattle.arrival.specs.declared.ToolState.{ToolState}
+use Rattle.arrival.specs.declared.Meaning.{Meaning}
+use Rattle.arrival.specs.State.{freshTool}
+use Rattle.tool.specs.After.{stateAfter as toolAfter}
 use Rattle.tool.specs.Call.{begun, beginNumber, beginState, beginResult, eventNumber, eventState, eventResult}
 use Rattle.tool.proofs.BoundLaws as tools
 use Rattle.host.specs.Packed.{packedUnit, isUnit, unpackedUnit, requestFrom, packedTool, isTool, unpackedTool}
@@ -55,11 +55,11 @@ unit-stepped b store f room bytes is =
     kept-packs packedUnit (unitNumber lab store room (unpackedUnit b) f) b (stateAfter (unpackedUnit b) (reactionTo lab store (unpackedUnit b) f)) (unpackedUnit b) (sym (unit-again b bytes is))
 
 module _ (b : List ℕ) (bytes : Bytes b) (is : isTool b ≡ true) where
-  tool-evented : (m : Meaning) (new : List ℕ) (room out : ℕ)
+  tool-evented : (m : Meaning) (new room out : ℕ)
       → toolKept (eventResult lab (unpackedTool b) m new room out) b ≡ packedTool (eventState (unpackedTool b) m new room out)
   unfolding toolKept eventResult eventState
   tool-evented m new room out =
-      kept-packs packedTool (eventNumber (unpackedTool b) room out) b (toolAfter (unpackedTool b) m (length new)) (unpackedTool b) (sym (tool-again b bytes is))
+      kept-packs packedTool (eventNumber (unpackedTool b) room out) b (toolAfter (unpackedTool b) m new) (unpackedTool b) (sym (tool-again b bytes is))
 
   tool-began : (request : ℕ) (name : AnswerName) (out : ℕ) → request ≤ 5
       → toolKept (toolBegin b request name out) b ≡ packedTool (beginState (unpackedTool b) (requestFrom request) name out)

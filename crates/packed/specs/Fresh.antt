@@ -14,9 +14,9 @@ use Rattle.catalog.specs.declared.AnswerName.{AnswerName}
 use Rattle.store.specs.Layout.{narrow}
 use Rattle.store.specs.Check.{storeNumber}
 use Rattle.services.specs.declared.Phase.the-variants.{Granted}
-use Rattle.tool.specs.declared.Request.{Request}
-use Rattle.tool.specs.declared.Request.the-variants as requests
-use Rattle.tool.specs.State.{noName}
+use Rattle.arrival.specs.declared.Request.{Request}
+use Rattle.arrival.specs.declared.Request.the-variants as requests
+use Rattle.arrival.specs.State.{noName}
 use Rattle.tool.specs.Sent.{frameSent}
 use Rattle.host.specs.Calls.{unitFreshState, unitKept, unitStep, toolFreshState, toolBegin}
 use Rattle.packed.specs.Simulation.{UnitIs}

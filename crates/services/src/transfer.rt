@@ -134,6 +134,6 @@ pub(crate) fn on_acknowledge(phase: Phase, sent: Place, data: &[u8]) -> Reaction
     on_sending(
         phase,
         sent,
-        AckCode(octets::big_endian::two(data[2], data[3])),
+        AckCode(octets::big_endian::number_of_two(data[2], data[3])),
     )
 }

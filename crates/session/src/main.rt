@@ -1,12 +1,11 @@
-// A whole download between both ends over a line in memory that loses, repeats and spoils by a fixed pattern.
+// A whole download in Rattle alone: both ends' calls on their own states, without packing and without C.
 mod ends;
-mod line;
 mod print;
 mod sample;
 
+use arrival::Request;
 use catalog::AnswerName;
 use ends::Session;
-use tool::Request;
 
 // The requests of a download, in order; the fourth to the sixth are transfers.
 fn request_at(k: usize) -> Request {
@@ -31,61 +30,52 @@ fn name_at(k: usize) -> AnswerName {
     }
 }
 
-// Whether what the tool holds is the answer of the store.
-fn compared(session: Session, name: AnswerName, store: &[u8], room: &[u8]) {
+// Whether the request is done and what the tool holds is the answer of the store; a fixed request has none.
+fn compared(session: Session, k: usize, store: &[u8], room: &[u8]) {
     let tool = session.tool;
+    let outcome = tool.outcome;
     let held = tool.held as usize;
-    let place = octets::Place {
-        number: 0,
-        start: 0,
-        len: held,
-    };
-    print::text(b"held ");
-    print::number(held);
-    if octets::buffer::same(
-        octets::buffer::part(room, place),
-        store::read::lookup(store, name),
-    ) {
-        print::text(b" bytes, the answer of the store\n");
-    } else {
-        print::text(b" bytes, not the answer of the store\n");
+    let answer = store::read::lookup(store, name_at(k));
+    if ends::is_done(outcome) {
+        print::number(b": done, held ", held);
     }
+    if 0 < held && octets::buffer::same(octets::buffer::part(room, ends::front(held)), answer) {
+        print::text(b", the answer of the store");
+    }
+    print::text(b"\n");
 }
 
-fn step(
-    session: Session,
-    k: usize,
-    store: &[u8],
-    room: &mut [u8],
-    line: &mut [u8],
-    lens: &mut [usize],
-) -> Session {
-    let name = name_at(k);
-    let after = ends::run(session, request_at(k), name, store, room, line, lens);
-    if 3 <= k && k < 6 {
-        compared(after, name, store, room);
-    }
+// Request k of a download.
+fn step(session: Session, k: usize, store: &[u8], room: &mut [u8]) -> Session {
+    print::number(b"request ", k);
+    let after = ends::run(session, request_at(k), name_at(k), store, room);
+    compared(after, k, store, room);
     after
 }
 
-fn steps(store: &[u8], room: &mut [u8], line: &mut [u8], lens: &mut [usize]) {
-    let mut session = ends::fresh();
+fn steps(store: &[u8], room: &mut [u8]) {
+    let unit = unit::state::fresh(2);
+    let tool = arrival::state::fresh();
+    let mut session = Session {
+        unit,
+        tool,
+        len: 0,
+        calls: 0,
+    };
     let mut k: usize = 0;
     while k < 8 {
-        session = step(session, k, store, room, line, lens);
+        session = step(session, k, store, room);
         k += 1;
     }
 }
 
-fn download(store: &mut [u8], room: &mut [u8], line: &mut [u8], lens: &mut [usize]) {
+fn download(store: &mut [u8], room: &mut [u8]) {
     sample::fill(store);
-    steps(store, room, line, lens);
+    steps(store, room);
 }
 
 fn main() {
     let mut store = [0u8; 4096];
     let mut room = [0u8; 4096];
-    let mut line = [0u8; 4160];
-    let mut lens = [0usize; 16];
-    download(&mut store, &mut room, &mut line, &mut lens);
+    download(&mut store, &mut room);
 }

@@ -52,7 +52,7 @@ fn entry_day(store: &[u8], i: usize) -> u32
     ensures { λ r. ⌜ r ≡ entryDay narrow i (now (store .entry)) ⌝ }
 {
     let at = HEADER + ENTRY * i;
-    octets::big_endian::four(store[at], store[at + 1], store[at + 2], store[at + 3])
+    octets::big_endian::number_of_four(store[at], store[at + 1], store[at + 2], store[at + 3])
 }
 
 pub(crate) fn entry_offset(store: &[u8], i: usize) -> usize
@@ -60,7 +60,7 @@ pub(crate) fn entry_offset(store: &[u8], i: usize) -> usize
     ensures { λ r. ⌜ (r ≡ entryOffset narrow i (now (store .entry))) × (r < 65536) ⌝ }
 {
     let at = HEADER + ENTRY * i + DAY;
-    octets::big_endian::two(store[at], store[at + 1]) as usize
+    octets::big_endian::number_of_two(store[at], store[at + 1]) as usize
 }
 
 pub(crate) fn entry_length(store: &[u8], i: usize) -> usize
@@ -68,7 +68,7 @@ pub(crate) fn entry_length(store: &[u8], i: usize) -> usize
     ensures { λ r. ⌜ (r ≡ entryLength narrow i (now (store .entry))) × (r < 65536) ⌝ }
 {
     let at = HEADER + ENTRY * i + DAY + FIELD;
-    octets::big_endian::two(store[at], store[at + 1]) as usize
+    octets::big_endian::number_of_two(store[at], store[at + 1]) as usize
 }
 
 // Where answer `i` begins in the buffer.

@@ -15,12 +15,13 @@ use Rattle.frame.specs.declared.End.the-variants as ends
 use Rattle.frame.specs.Frame.{frameOf}
 use Rattle.split.specs.Codes.{stopCode}
 use Rattle.split.specs.declared.AckCode.{AckCode}
-use Rattle.tool.specs.declared.Outcome.the-variants.{Done, NoAnswer}
-use Rattle.tool.specs.declared.ToolState.{ToolState}
-use Rattle.tool.specs.declared.Meaning.{Meaning}
-use Rattle.tool.specs.declared.Meaning.the-variants.{FailedWait, WholeAnswer, SubMessageTaken, LastTaken, NoRoomForSubMessage}
+use Rattle.arrival.specs.declared.Outcome.the-variants.{Done, NoAnswer}
+use Rattle.arrival.specs.declared.ToolState.{ToolState}
+use Rattle.arrival.specs.declared.Meaning.{Meaning}
+use Rattle.arrival.specs.declared.Meaning.the-variants.{FailedWait, WholeAnswer, SubMessageTaken, LastTaken, NoRoomForSubMessage}
+use Rattle.arrival.specs.State.{heldMost}
 use Rattle.tool.specs.Sent.{acknowledgement, frameSent}
-use Rattle.tool.specs.Event.{ended, waits, afterFailedWait, takes, stateAfter, sentAfter}
+use Rattle.tool.specs.After.{ended, waits, afterFailedWait, takes, stateAfter, sentAfter}
 
 -- "after the third sending the request ends"
 module _ (t r : ToolState) where
@@ -95,7 +96,7 @@ module _ (a : Addresses) (t : ToolState) (m : Meaning) (same : m ≡ NoRoomForSu
 
 -- where bytes are taken, the sums fit
 module _ (m m′ : Meaning) where
-  pub taken-sum : (sum : ℕ) → (takes m ≡ true → sum ≤ 60000) → m ≡ m′ → takes m′ ≡ true → sum ≤ 60000
+  pub taken-sum : (sum : ℕ) → (takes m ≡ true → sum ≤ heldMost) → m ≡ m′ → takes m′ ≡ true → sum ≤ heldMost
   taken-sum sum f same k = f (rw same k)
 
   pub taken-next : (e : ℕ) → (takes m ≡ true → e < 65535) → m ≡ m′ → takes m′ ≡ true → Fits w16 (e + 1)

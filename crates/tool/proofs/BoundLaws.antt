@@ -2,26 +2,28 @@
 -- needs.
 use Prim.Native.Nat.{ℕ, _+_, _<_, _≤_}
 use mathlib.Core.Bool.{Bool, true, false, cond}
-use mathlib.Core.List.{List, []}
-use mathlib.Core.Path.{_≡_, refl, sym, _∙_}
+use mathlib.Core.List.{List}
+use mathlib.Core.Path.{_≡_, refl}
 use native.Mathlib.Omega.{arith}
 use lib.Dec.{eqb, leb}
 use lib.ListN.{length}
 use borrow.Author.Tests.{eqb-true}
 use Rattle.octets.proofs.Tests.{never}
 use Rattle.frame.specs.declared.Addresses.{Addresses}
-use Rattle.frame.specs.declared.End.the-variants as ends
-use Rattle.frame.specs.Frame.{dataOf}
 use Rattle.catalog.specs.declared.AnswerName.{AnswerName}
-use Rattle.tool.specs.declared.Request.{Request}
-use Rattle.tool.specs.declared.Outcome.the-variants.{NoAnswer}
-use Rattle.tool.specs.declared.ToolState.{ToolState}
-use Rattle.tool.specs.declared.Meaning.{Meaning}
-use Rattle.tool.specs.declared.Meaning.the-variants.{Ignored, FailedWait, Confirmed, WholeAnswer, SubMessageTaken, LastTaken, NoRoomForAnswer, NoRoomForSubMessage, RefusedBy}
-use Rattle.tool.specs.Event.{arrivalMeaning, arrivalBytes, takes, ended, waits, afterFailedWait, stateAfter}
+use Rattle.arrival.specs.declared.Request.{Request}
+use Rattle.arrival.specs.declared.Outcome.the-variants.{NoAnswer}
+use Rattle.arrival.specs.declared.ToolState.{ToolState}
+use Rattle.arrival.specs.declared.Meaning.{Meaning}
+use Rattle.arrival.specs.declared.Meaning.the-variants.{Ignored, FailedWait, Confirmed, WholeAnswer, SubMessageTaken, LastTaken, NoRoomForAnswer}
+use Rattle.arrival.specs.declared.Meaning.the-variants.{NoRoomForSubMessage, RefusedBy}
+use Rattle.arrival.specs.State.{heldMost}
+use Rattle.arrival.specs.Meaning.{arrivalMeaning, arrivalBytes}
+use Rattle.tool.specs.After.{takes, ended, waits, afterFailedWait, stateAfter}
 use Rattle.tool.specs.Call.{begun, beginNumber, beginState, eventNumber, eventState}
-use Rattle.tool.proofs.EventLaws.{taken}
-use Rattle.tool.proofs.CallLaws.{takes-next}
+use Rattle.arrival.proofs.RoomLaws.{fits-in-most}
+use Rattle.tool.proofs.TakenLaws.{taken}
+use Rattle.tool.proofs.CallLaws.{step-next}
 
 pub record Fits (t : ToolState) : Type 0 where
   pub day : t .name .day < 4294967296
@@ -38,7 +40,7 @@ module _ (t : ToolState) (fits : Fits t) where
       go false = record { day = fits .day; expected = fits .expected; held = fits .held }
 
   -- where bytes are taken, their sum with those held and the next number fit
-  after-fits : (m : Meaning) (n : ℕ) → (takes m ≡ true → t .held + n ≤ 60000) → (takes m ≡ true → t .expected .0 < 65535) → Fits (stateAfter t m n)
+  after-fits : (m : Meaning) (n : ℕ) → (takes m ≡ true → t .held + n ≤ heldMost) → (takes m ≡ true → t .expected .0 < 65535) → Fits (stateAfter t m n)
   unfolding takes stateAfter
   after-fits Ignored n most next = fits
   after-fits FailedWait n most next = failed-fits
@@ -58,19 +60,22 @@ module _ (t : ToolState) (fits : Fits t) where
       go true = record { day = d; expected = omega arith; held = omega arith }
       go false = fits
 
-  event-fits : (m : Meaning) (new : List ℕ) (room out : ℕ) → (eventNumber t room out ≡ 0 → Fits (stateAfter t m (length new))) → Fits (eventState t m new room out)
+  event-fits : (m : Meaning) (n roomLen outLen : ℕ) → (eventNumber t roomLen outLen ≡ 0 → Fits (stateAfter t m n)) → Fits (eventState t m n roomLen outLen)
   unfolding eventState
-  event-fits m new room out f = go (eqb (eventNumber t room out) 0) refl
+  event-fits m n roomLen outLen f = go (eqb (eventNumber t roomLen outLen) 0) refl
     where
-      go : (b : Bool) → eqb (eventNumber t room out) 0 ≡ b → Fits (cond b (stateAfter t m (length new)) t)
+      go : (b : Bool) → eqb (eventNumber t roomLen outLen) 0 ≡ b → Fits (cond b (stateAfter t m n) t)
       go true e = f (eqb-true _ _ e)
       go false e = fits
 
-  pub wait-fits : (room out : ℕ) → Fits (eventState t FailedWait [] room out)
+  pub wait-fits : (roomLen outLen : ℕ) → Fits (eventState t FailedWait 0 roomLen outLen)
   unfolding takes
-  wait-fits room out = event-fits FailedWait [] room out (λ z. after-fits FailedWait 0 (λ e. never (cc)) (λ e. never (cc)))
+  wait-fits roomLen outLen = event-fits FailedWait 0 roomLen outLen (λ z. after-fits FailedWait 0 (λ e. never (cc)) (λ e. never (cc)))
 
-  pub arrival-fits : (a : Addresses) (b : List ℕ) (room out : ℕ) → Fits (eventState t (arrivalMeaning a room t b) (arrivalBytes a t b) room out)
-  arrival-fits a b room out =
-      event-fits (arrivalMeaning a room t b) (arrivalBytes a t b) room out (λ z.
-      after-fits (arrivalMeaning a room t b) (length (arrivalBytes a t b)) (λ k. taken a room t b k .inMost) (λ k. takes-next a t b (dataOf a ends.Tool b) room out (eventNumber t room out) (arrivalMeaning a room t b) refl z refl refl k))
+  pub arrival-fits : (a : Addresses) (b : List ℕ) (roomLen outLen : ℕ)
+      → Fits (eventState t (arrivalMeaning a roomLen t b) (length (arrivalBytes a t b)) roomLen outLen)
+  arrival-fits a b roomLen outLen =
+      event-fits (arrivalMeaning a roomLen t b) (length (arrivalBytes a t b)) roomLen outLen (λ z.
+      after-fits (arrivalMeaning a roomLen t b) (length (arrivalBytes a t b))
+      (λ k. fits-in-most roomLen t _ (taken a roomLen t b k .fit))
+      (λ k. step-next t (arrivalMeaning a roomLen t b) roomLen outLen (eventNumber t roomLen outLen) (λ l. taken a roomLen t b l .transfer) refl z k))

@@ -8,24 +8,26 @@ use lib.Dec.{leb}
 use lib.ListN.{length}
 use borrow.Author.Tests.{le-leb, lt-leb, eq-eqb, ne-eqb, leb-true}
 use Rattle.octets.specs.Numbers.{changedBy}
-use Rattle.octets.specs.Buffer.{front}
+use Rattle.octets.specs.Buffer.{front, partAt}
 use Rattle.octets.proofs.OrderLaws.{unless-is, or-zero}
 use Rattle.octets.proofs.CallLaws.{kept-by, changed-by}
 use Rattle.octets.proofs.Tests.{and-left, and-right}
 use Rattle.frame.specs.declared.Addresses.{Addresses}
-use Rattle.frame.specs.declared.End.the-variants as ends
 use Rattle.frame.specs.Frame.{dataOf}
 use Rattle.catalog.specs.Name.{nameNumber}
 use Rattle.catalog.specs.declared.AnswerName.{AnswerName}
-use Rattle.tool.specs.declared.Request.{Request}
-use Rattle.tool.specs.declared.ToolState.{ToolState}
+use Rattle.arrival.specs.declared.Request.{Request}
+use Rattle.arrival.specs.declared.ToolState.{ToolState}
 use Rattle.tool.specs.declared.ToolStep.{ToolStep}
-use Rattle.tool.specs.declared.Meaning.{Meaning}
-use Rattle.tool.specs.State.{isTransfer, isWaiting, possible}
-use Rattle.tool.specs.Event.{newBytes, receivedBy, arrivalMeaning, arrivalBytes, takes, stateAfter, sentAfter, roomAfter}
-use Rattle.tool.specs.Call.{requestNumber, beginNumber, eventNumber}
-use Rattle.tool.proofs.StateLaws.{waiting-transfer}
-use Rattle.tool.proofs.EventLaws.{taken}
+use Rattle.arrival.specs.declared.Meaning.{Meaning}
+use Rattle.arrival.specs.declared.Arrival.{Arrival}
+use Rattle.arrival.specs.State.{heldMost, isTransfer, isWaiting, possible}
+use Rattle.arrival.specs.Meaning.{newBytes, arrivalBytes, arrivalOf}
+use Rattle.tool.specs.After.{takes, roomAfter}
+use Rattle.tool.specs.Call.{requestNumber, beginNumber, eventNumber, eventResult, eventOut, eventRoom, arrivalResult, arrivalRoom, arrivalOut}
+use Rattle.arrival.proofs.StateLaws.{waiting-transfer}
+use Rattle.arrival.proofs.RoomLaws.{fits-in-room, fits-in-most}
+use Rattle.tool.proofs.TakenLaws.{Taken, taken}
 
 -- The number of a begin
 
@@ -46,108 +48,134 @@ module _ (request : Request) (name : AnswerName) where
   unfolding requestNumber
   request-fixed f z h = rw (f, eq-eqb (name .trep) 0 z, eq-eqb (name .day) 0 h)
 
-module _ (t : ToolState) (request : Request) (name : AnswerName) (out r : ℕ) (e : r ≡ requestNumber request name) where
-  pub begin-request : (r ≡ 0 → ⊥) → r ≡ beginNumber t request name out
+module _ (t : ToolState) (request : Request) (name : AnswerName) (outLen r : ℕ) (e : r ≡ requestNumber request name) where
+  pub begin-request : (r ≡ 0 → ⊥) → r ≡ beginNumber t request name outLen
   unfolding beginNumber
   begin-request h = rw (← e, ne-eqb r 0 h)
 
-  pub begin-waiting : r ≡ 0 → isWaiting (t .outcome) ≡ true → 11 ≡ beginNumber t request name out
+  pub begin-waiting : r ≡ 0 → isWaiting (t .outcome) ≡ true → 11 ≡ beginNumber t request name outLen
   unfolding beginNumber
   begin-waiting z w = rw (← e, eq-eqb r 0 z, w)
 
-  pub begin-short : r ≡ 0 → isWaiting (t .outcome) ≡ false → out < 260 → 4 ≡ beginNumber t request name out
+  pub begin-short : r ≡ 0 → isWaiting (t .outcome) ≡ false → outLen < 260 → 4 ≡ beginNumber t request name outLen
   unfolding beginNumber
-  begin-short z w h = rw (← e, eq-eqb r 0 z, w, lt-leb 260 out h)
+  begin-short z w h = rw (← e, eq-eqb r 0 z, w, lt-leb 260 outLen h)
 
-  pub begin-right : r ≡ 0 → isWaiting (t .outcome) ≡ false → 260 ≤ out → 0 ≡ beginNumber t request name out
+  pub begin-right : r ≡ 0 → isWaiting (t .outcome) ≡ false → 260 ≤ outLen → 0 ≡ beginNumber t request name outLen
   unfolding beginNumber
-  begin-right z w h = rw (← e, eq-eqb r 0 z, w, le-leb 260 out h)
+  begin-right z w h = rw (← e, eq-eqb r 0 z, w, le-leb 260 outLen h)
 
 -- a begin that is not refused has room for its frame; r is its number
-pub begin-room : (t : ToolState) (request : Request) (name : AnswerName) (out r : ℕ) → r ≡ beginNumber t request name out → r ≡ 0 → 260 ≤ out
+pub begin-room : (t : ToolState) (request : Request) (name : AnswerName) (outLen r : ℕ) → r ≡ beginNumber t request name outLen → r ≡ 0 → 260 ≤ outLen
 unfolding beginNumber
-begin-room t request name out r e z =
+begin-room t request name outLen r e z =
     let q = or-zero (requestNumber request name) _ (sym e ∙ z) in
     let w = unless-is (not (isWaiting (t .outcome))) 11 _ 0 refl (q .rest) in
-    leb-true 260 out (unless-is (leb 260 out) 4 0 0 refl (w .rest) .first)
+    leb-true 260 outLen (unless-is (leb 260 outLen) 4 0 0 refl (w .rest) .first)
 
 -- The number of an event
 
-module _ (t : ToolState) (room out : ℕ) where
-  pub event-still : isWaiting (t .outcome) ≡ false → 11 ≡ eventNumber t room out
+module _ (t : ToolState) (roomLen outLen : ℕ) where
+  pub event-still : isWaiting (t .outcome) ≡ false → 11 ≡ eventNumber t roomLen outLen
   unfolding eventNumber
   event-still w = rw w
 
-  pub event-impossible : isWaiting (t .outcome) ≡ true → possible room t ≡ false → 11 ≡ eventNumber t room out
+  pub event-impossible : isWaiting (t .outcome) ≡ true → possible roomLen t ≡ false → 11 ≡ eventNumber t roomLen outLen
   unfolding eventNumber
   event-impossible w p = rw (w, p)
 
-  pub event-short : isWaiting (t .outcome) ≡ true → possible room t ≡ true → out < 260 → 4 ≡ eventNumber t room out
+  pub event-short : isWaiting (t .outcome) ≡ true → possible roomLen t ≡ true → outLen < 260 → 4 ≡ eventNumber t roomLen outLen
   unfolding eventNumber
-  event-short w p h = rw (w, p, lt-leb 260 out h)
+  event-short w p h = rw (w, p, lt-leb 260 outLen h)
 
-  pub event-right : isWaiting (t .outcome) ≡ true → possible room t ≡ true → 260 ≤ out → 0 ≡ eventNumber t room out
+  pub event-right : isWaiting (t .outcome) ≡ true → possible roomLen t ≡ true → 260 ≤ outLen → 0 ≡ eventNumber t roomLen outLen
   unfolding eventNumber
-  event-right w p h = rw (w, p, le-leb 260 out h)
+  event-right w p h = rw (w, p, le-leb 260 outLen h)
 
 -- what number 0 says of an event
-pub record Heard (t : ToolState) (room out : ℕ) : Type 0 where
+pub record Heard (t : ToolState) (roomLen outLen : ℕ) : Type 0 where
   pub waiting : isWaiting (t .outcome) ≡ true
-  pub possibly : possible room t ≡ true
-  pub outRoom : 260 ≤ out
+  pub possibly : possible roomLen t ≡ true
+  pub outRoom : 260 ≤ outLen
 
-pub heard : (t : ToolState) (room out : ℕ) → eventNumber t room out ≡ 0 → Heard t room out
+pub heard : (t : ToolState) (roomLen outLen : ℕ) → eventNumber t roomLen outLen ≡ 0 → Heard t roomLen outLen
 unfolding eventNumber
-heard t room out e =
-    let q = unless-is (isWaiting (t .outcome) && possible room t) 11 _ 0 refl e in
+heard t roomLen outLen e =
+    let q = unless-is (isWaiting (t .outcome) && possible roomLen t) 11 _ 0 refl e in
     record {
       waiting = and-left (isWaiting (t .outcome)) _ (q .first);
       possibly = and-right (isWaiting (t .outcome)) _ (q .first);
-      outRoom = leb-true 260 out (unless-is (leb 260 out) 4 0 0 refl (q .rest) .first);
+      outRoom = leb-true 260 outLen (unless-is (leb 260 outLen) 4 0 0 refl (q .rest) .first);
     }
 
-pub event-room : (t : ToolState) (room out r : ℕ) → r ≡ eventNumber t room out → r ≡ 0 → 260 ≤ out
-event-room t room out r e z = heard t room out (sym e ∙ z) .outRoom
+pub event-room : (t : ToolState) (roomLen outLen r : ℕ) → r ≡ eventNumber t roomLen outLen → r ≡ 0 → 260 ≤ outLen
+event-room t roomLen outLen r e z = heard t roomLen outLen (sym e ∙ z) .outRoom
 
--- where an arrival's bytes are taken, the sums and the next number fit; m is the meaning that the code got and d the data
-module _ (a : Addresses) (t : ToolState) (b d : List ℕ) (room out r : ℕ) (m : Meaning) (e : r ≡ eventNumber t room out) (z : r ≡ 0) (em : m ≡ arrivalMeaning a room t b) (ed : d ≡ dataOf a ends.Tool b) where
-  bytes-are : arrivalBytes a t b ≡ newBytes t (receivedBy t d) d
-  unfolding arrivalBytes
-  bytes-are = rw ed
+-- where an event's bytes are taken, their sum with those held and the next number fit
 
-  pub takes-room : takes m ≡ true → t .held + length (newBytes t (receivedBy t d) d) ≤ room
-  takes-room k = rw (← bytes-are) (taken a room t b (rw (← em) k) .inRoom)
+pub step-most : (m : Meaning) (sum : ℕ) → (takes m ≡ true → sum ≤ heldMost) → takes m ≡ true → sum ≤ heldMost
+step-most m sum f k = f k
 
-  pub takes-most : (n : ℕ) → n ≡ length (newBytes t (receivedBy t d) d) → takes m ≡ true → t .held + n ≤ 60000
-  takes-most n q k = rw (q, ← bytes-are) (taken a room t b (rw (← em) k) .inMost)
+pub step-next : (t : ToolState) (m : Meaning) (roomLen outLen r : ℕ) → (takes m ≡ true → isTransfer (t .request) ≡ true) → r ≡ eventNumber t roomLen outLen
+    → r ≡ 0 → takes m ≡ true → t .expected .0 < 65535
+step-next t m roomLen outLen r f e z k =
+    let h = heard t roomLen outLen (sym e ∙ z) in
+    let w = waiting-transfer roomLen t (h .waiting) (h .possibly) (f k) in
+    omega (arith, w .expectedMost)
 
-  pub takes-next : takes m ≡ true → t .expected .0 < 65535
-  takes-next k =
-      let h = heard t room out (sym e ∙ z) in
-      let w = waiting-transfer room t (h .waiting) (h .possibly) (taken a room t b (rw (← em) k) .transfer) in
-      omega (arith, w .expectedMost)
+-- An arrival x: what the step needs of it, and what the step gives
+module _ (a : Addresses) (t : ToolState) (b : List ℕ) (roomLen : ℕ) (x : Arrival) (is : x ≡ arrivalOf a roomLen t b) where
+  taken-by : takes (x .meaning) ≡ true → Taken roomLen t (length (arrivalBytes a t b))
+  unfolding arrivalOf
+  taken-by k = taken a roomLen t b (rw is at k)
 
-  -- and what follows is as the rule says
-  pub arrived-state : (n : ℕ) (s : ToolState) → n ≡ length (newBytes t (receivedBy t d) d) → s ≡ stateAfter t m n → s ≡ changedBy (eventNumber t room out) (stateAfter t (arrivalMeaning a room t b) (length (arrivalBytes a t b))) t
-  arrived-state n s q f = changed-by r _ s _ t e z (rw (bytes-are, ← q, ← em) f)
+  pub arrival-transfer : takes (x .meaning) ≡ true → isTransfer (t .request) ≡ true
+  arrival-transfer k = taken-by k .transfer
 
-  pub arrived-room : (o o′ : List ℕ) → o′ ≡ roomAfter t m (newBytes t (receivedBy t d) d) o → o′ ≡ changedBy (eventNumber t room out) (roomAfter t (arrivalMeaning a room t b) (arrivalBytes a t b) o) o
-  arrived-room o o′ f = changed-by r _ o′ _ o e z (rw (bytes-are, ← em) f)
+  pub arrival-most : takes (x .meaning) ≡ true → t .held + x .new ≤ heldMost
+  unfolding arrivalOf
+  arrival-most k = rw is (fits-in-most roomLen t _ (taken-by k .fit))
 
--- the frame that goes out needs the meaning alone
-module _ (a : Addresses) (t : ToolState) (b : List ℕ) (room out r : ℕ) (m : Meaning) (e : r ≡ eventNumber t room out) (z : r ≡ 0) (em : m ≡ arrivalMeaning a room t b) where
-  sent-is : sentAfter a t m ≡ changedBy (eventNumber t room out) (sentAfter a t (arrivalMeaning a room t b)) []
-  sent-is = changed-by r _ _ _ [] e z (rw em)
+  pub arrival-result : (outLen : ℕ) (r : ToolStep) → r ≡ eventResult a t (x .meaning) (x .new) roomLen outLen → r ≡ arrivalResult a t b roomLen outLen
+  unfolding arrivalOf
+  arrival-result outLen r e = e ∙ ap (λ (y : Arrival). eventResult a t (y .meaning) (y .new) roomLen outLen) is
 
-  pub arrived-length : (n : ℕ) → n ≡ length (sentAfter a t m) → n ≡ length (changedBy (eventNumber t room out) (sentAfter a t (arrivalMeaning a room t b)) [])
-  arrived-length n q = rw (← sent-is) q
+  pub arrival-out : (o o′ : List ℕ) → o′ ≡ eventOut a t (x .meaning) roomLen o → o′ ≡ arrivalOut a t b roomLen o
+  unfolding arrivalOf
+  arrival-out o o′ e = e ∙ ap (λ (y : Arrival). eventOut a t (y .meaning) roomLen o) is
 
-  pub arrived-out : (o o′ : List ℕ) → o′ ≡ front (sentAfter a t m) o → o′ ≡ front (changedBy (eventNumber t room out) (sentAfter a t (arrivalMeaning a room t b)) []) o
-  arrived-out o o′ q = rw (← sent-is) q
+  -- d is its data
+  module _ (d : List ℕ) (part : d ≡ partAt (x .place .start) (x .place .len) b) where
+    bytes-are : newBytes t (x .received) d ≡ arrivalBytes a t b
+    unfolding arrivalOf arrivalBytes dataOf
+    bytes-are = rw (part, is)
+
+    pub arrival-room : takes (x .meaning) ≡ true → t .held + length (newBytes t (x .received) d) ≤ roomLen
+    arrival-room k = rw bytes-are (fits-in-room roomLen t _ (taken-by k .fit))
+
+-- the room after a step s
+module _ (a : Addresses) (t : ToolState) (b o : List ℕ) (outLen : ℕ) (x : Arrival) (is : x ≡ arrivalOf a (length o) t b) (s : ToolStep)
+    (e : s ≡ eventResult a t (x .meaning) (x .new) (length o) outLen) where
+  step-number : s .number ≡ eventNumber t (length o) outLen
+  unfolding eventResult
+  step-number = ap (λ (r : ToolStep). r .number) e
+
+  pub arrived-kept : (s .number ≡ 0 → ⊥) → o ≡ arrivalRoom a t b outLen o
+  unfolding eventRoom
+  arrived-kept h = kept-by (s .number) _ _ o step-number h
+
+  pub arrived-taken : (d o′ : List ℕ) → s .number ≡ 0 → d ≡ partAt (x .place .start) (x .place .len) b
+      → o′ ≡ roomAfter t (x .meaning) (newBytes t (x .received) d) o → o′ ≡ arrivalRoom a t b outLen o
+  unfolding eventRoom arrivalOf
+  arrived-taken d o′ z part q =
+      changed-by (s .number) _ o′ _ o step-number z
+      (q ∙ ap (λ (v : List ℕ). roomAfter t (x .meaning) v o) (bytes-are a t b (length o) x is d part)
+      ∙ ap (λ (y : Arrival). roomAfter t (y .meaning) (arrivalBytes a t b) o) is)
 
 -- What a call hands back
 
-pub step-is : (k n number len : ℕ) (s state : ToolState) → k ≡ number → s ≡ state → n ≡ len → _≡_ {A = ToolStep} (record { number = k; state = s; len = n }) (record { number = number; state = state; len = len })
+pub step-is : (k n number len : ℕ) (s state : ToolState) → k ≡ number → s ≡ state → n ≡ len
+    → _≡_ {A = ToolStep} (record { number = k; state = s; len = n }) (record { number = number; state = state; len = len })
 step-is k n number len s state e p q = cc
 
 -- f is the frame that goes out where number is 0; r is the number that the call gave

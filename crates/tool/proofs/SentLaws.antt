@@ -1,16 +1,15 @@
 -- The frames that are sent: each has 5 to 260 bytes, so a buffer of 260 takes it.
 use Prim.Native.Nat.{ℕ, _+_, _-_, _/_, _%_, _≤_}
-use mathlib.Core.Bool.{Bool, true, false}
+use mathlib.Core.Bool.{true, false}
 use mathlib.Core.List.{List, [], _∷_}
 use mathlib.Core.Path.{_≡_, refl, sym}
 use native.Mathlib.Omega.{arith}
 use lib.ListN.{length}
 use borrow.Author.Tests.{lt-ltb, le-leb, eq-eqb, ne-eqb}
-use Rattle.octets.specs.Buffer.{front, sameBytes}
+use Rattle.octets.specs.Buffer.{front}
 use Rattle.octets.specs.declared.Written.{Written}
 use Rattle.frame.specs.declared.Addresses.{Addresses}
 use Rattle.frame.specs.declared.End.{End}
-use Rattle.frame.specs.declared.End.the-variants as ends
 use Rattle.frame.specs.Frame.{closed, frameOf, writeNumber, writeResult, writeOut}
 use Rattle.frame.specs.Messages.{startFrame, startResult, startOut}
 use Rattle.frame.proofs.WriteLaws.{length-frame}
@@ -19,9 +18,8 @@ use Rattle.catalog.specs.declared.AnswerName.{AnswerName}
 use Rattle.split.specs.Codes.{sub, acknowledgeOf}
 use Rattle.split.specs.declared.SubMessage.{SubMessage}
 use Rattle.split.specs.declared.AckCode.{AckCode}
-use Rattle.tool.specs.declared.Request.{Request}
-use Rattle.tool.specs.declared.Request.the-variants as requests
-use Rattle.tool.specs.Sent.{transferRequest, acknowledgement, transferData, frameSent, sidSent, replyWanted}
+use Rattle.arrival.specs.declared.Request.{Request}
+use Rattle.tool.specs.Sent.{transferRequest, acknowledgement, transferData, frameSent}
 
 -- A frame written into 260 bytes or more
 
@@ -57,7 +55,9 @@ module _ (a : Addresses) (end : End) (d d′ : List ℕ) where
   front-data o o′ e q = rw (← q) e
 
 module _ (name : AnswerName) where
-  pub request-day : isActivities (name .trep) ≡ true → 0x36 ∷ name .trep ∷ name .day / 256 / 256 / 256 % 256 ∷ name .day / 256 / 256 % 256 ∷ name .day / 256 % 256 ∷ name .day % 256 ∷ [] ≡ transferRequest name
+  pub request-day : isActivities (name .trep) ≡ true
+      → 0x36 ∷ name .trep ∷ name .day / 256 / 256 / 256 % 256 ∷ name .day / 256 / 256 % 256 ∷ name .day / 256 % 256 ∷ name .day % 256 ∷ []
+      ≡ transferRequest name
   unfolding transferRequest
   request-day h = rw h
 
@@ -73,7 +73,8 @@ pub transfer-first : (name : AnswerName) (e : ℕ) → e ≡ 1 → transferReque
 unfolding transferData
 transfer-first name e h = rw (eq-eqb e 1 h)
 
-pub transfer-next : (name : AnswerName) (e : ℕ) (before : SubMessage) (code : AckCode) → (e ≡ 1 → ⊥) → before ≡ sub (e - 1) → code ≡ acknowledgeOf before → acknowledgement code ≡ transferData name e
+pub transfer-next : (name : AnswerName) (e : ℕ) (before : SubMessage) (code : AckCode) → (e ≡ 1 → ⊥) → before ≡ sub (e - 1) → code ≡ acknowledgeOf before
+    → acknowledgement code ≡ transferData name e
 unfolding transferData
 transfer-next name e before code h b c = rw (ne-eqb e 1 h, c, b)
 
@@ -88,11 +89,3 @@ module _ (a : Addresses) (name : AnswerName) (e : ℕ) (q q′ : Request) (same 
 
   pub sent-front : (o o′ : List ℕ) → o′ ≡ front (frameSent a q′ name e) o → o′ ≡ front (frameSent a q name e) o
   sent-front o o′ h = rw same h
-
--- "the SID last sent", and the reply, for each request
-
-pub sid-at : (q q′ : Request) (e r : ℕ) → q ≡ q′ → r ≡ sidSent q′ e → r ≡ sidSent q e
-sid-at q q′ e r h p = rw h p
-
-pub reply-at : (q q′ : Request) (d : List ℕ) (r : Bool) → q ≡ q′ → r ≡ sameBytes d (replyWanted q′) → r ≡ sameBytes d (replyWanted q)
-reply-at q q′ d r h p = rw h p

@@ -1,5 +1,4 @@
--- Document 01, The tool.
-pub mod State
+-- Document 01, The tool: what it sends, what follows from an event, and its calls.
 pub mod Sent
-pub mod Event
+pub mod After
 pub mod Call

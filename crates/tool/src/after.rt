@@ -1,7 +1,7 @@
 // What follows from an event: the next state, and the frame that goes out.
-use crate::Meaning;
-use crate::Outcome;
-use crate::ToolState;
+use arrival::Meaning;
+use arrival::Outcome;
+use arrival::ToolState;
 use split::SubMessage;
 ghost use mathlib.Core.Path.{_≡_};
 ghost use mathlib.Core.Bool.{true};
@@ -9,7 +9,8 @@ ghost use Prim.Native.Nat.{_+_, _≤_, _<_};
 ghost use lib.ListN.{length};
 ghost use Rattle.octets.specs.Buffer.{front};
 ghost use Rattle.frame.specs.Frame.{lab};
-ghost use Rattle.tool.specs.Event.{ended, waits, afterFailedWait, takes, stateAfter, sentAfter};
+ghost use Rattle.arrival.specs.State.{heldMost};
+ghost use Rattle.tool.specs.After.{ended, waits, afterFailedWait, takes, stateAfter, sentAfter};
 
 // Whether the frame's bytes go into the room.
 pub(crate) fn takes_in(meaning: Meaning) -> bool
@@ -75,7 +76,7 @@ fn after_failed_wait(state: ToolState) -> ToolState
 
 // So many bytes are held with the new ones.
 fn grown(held: u32, new: usize) -> u32
-    requires { ⌜ held + new ≤ 60000 ⌝ }
+    requires { ⌜ held + new ≤ heldMost ⌝ }
     ensures { λ r. ⌜ r ≡ held + new ⌝ }
 {
     held + (new as u32)
@@ -83,7 +84,7 @@ fn grown(held: u32, new: usize) -> u32
 
 // The next state; where bytes are taken, their sum with those held and the next number fit.
 pub(crate) fn state_after(state: ToolState, meaning: Meaning, new: usize) -> ToolState
-    requires { ⌜ (takes meaning ≡ true → state .held + new ≤ 60000) ⌝ }
+    requires { ⌜ (takes meaning ≡ true → state .held + new ≤ heldMost) ⌝ }
     requires { ⌜ (takes meaning ≡ true → state .expected .0 < 65535) ⌝ }
     ensures { λ r. ⌜ r ≡ stateAfter state meaning new ⌝ }
 {

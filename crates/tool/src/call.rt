@@ -1,27 +1,30 @@
 // The tool's calls: begin, arrival and wait's end, with the refusals in order.
-use crate::Meaning;
-use crate::Outcome;
-use crate::Request;
-use crate::ToolState;
 use crate::ToolStep;
+use arrival::Meaning;
+use arrival::Outcome;
+use arrival::Request;
+use arrival::ToolState;
 use catalog::AnswerName;
-use frame::End;
 use octets::numbers::BUFFER_SHORT;
 use octets::numbers::NOT_IN_TABLE;
 use octets::numbers::OUT_OF_TURN;
+use octets::wire::FRAME_MOST;
 use split::SubMessage;
 ghost use mathlib.Core.Path.{_≡_};
+ghost use mathlib.Core.Bool.{true};
+ghost use Prim.Native.Nat.{_+_, _≤_};
 ghost use lib.ListN.{length};
 ghost use Rattle.frame.specs.Frame.{lab};
-ghost use Rattle.tool.specs.Call.{requestNumber, beginNumber, begun, beginResult, beginOut, eventNumber, arrivalResult, arrivalRoom, arrivalOut, waitResult, waitOut};
-
-// Every frame of the protocol fits in so many bytes.
-const FRAME_MOST: usize = 260;
+ghost use Rattle.arrival.specs.State.{heldMost, isTransfer};
+ghost use Rattle.tool.specs.After.{takes};
+ghost use Rattle.tool.specs.Call.{requestNumber, beginNumber, begun, beginResult, beginOut};
+ghost use Rattle.tool.specs.Call.{eventNumber, eventResult, eventOut};
+ghost use Rattle.tool.specs.Call.{arrivalResult, arrivalRoom, arrivalOut, waitResult, waitOut};
 
 fn request_number(request: Request, name: AnswerName) -> u8
     ensures { λ r. ⌜ r ≡ requestNumber request name ⌝ }
 {
-    if crate::state::is_transfer(request) {
+    if arrival::state::is_transfer(request) {
         return catalog::name_number(name);
     }
     if name.trep != 0 {
@@ -33,18 +36,18 @@ fn request_number(request: Request, name: AnswerName) -> u8
     0
 }
 
-fn begin_number(state: ToolState, request: Request, name: AnswerName, out: usize) -> u8
-    ensures { λ r. ⌜ r ≡ beginNumber state request name out ⌝ }
+fn begin_number(state: ToolState, request: Request, name: AnswerName, out_len: usize) -> u8
+    ensures { λ r. ⌜ r ≡ beginNumber state request name «out_len» ⌝ }
 {
     let outcome = state.outcome;
     let number = request_number(request, name);
     if number != 0 {
         return number;
     }
-    if crate::state::is_waiting(outcome) {
+    if arrival::state::is_waiting(outcome) {
         return OUT_OF_TURN;
     }
-    if out < FRAME_MOST {
+    if out_len < FRAME_MOST {
         return BUFFER_SHORT;
     }
     0
@@ -85,39 +88,45 @@ pub fn begin(state: ToolState, request: Request, name: AnswerName, out: &mut [u8
     }
 }
 
-fn event_number(state: ToolState, room: usize, out: usize) -> u8
-    ensures { λ r. ⌜ r ≡ eventNumber state room out ⌝ }
+fn event_number(state: ToolState, room_len: usize, out_len: usize) -> u8
+    ensures { λ r. ⌜ r ≡ eventNumber state «room_len» «out_len» ⌝ }
 {
     let outcome = state.outcome;
-    if !crate::state::is_waiting(outcome) {
+    if !arrival::state::is_waiting(outcome) {
         return OUT_OF_TURN;
     }
-    if !crate::state::possible(state, room) {
+    if !arrival::state::possible(state, room_len) {
         return OUT_OF_TURN;
     }
-    if out < FRAME_MOST {
+    if out_len < FRAME_MOST {
         return BUFFER_SHORT;
     }
     0
 }
 
-// A string arrives, good frame or not. Refused by 11 and 4, in this order.
-pub fn arrived(state: ToolState, frame: &[u8], room: &mut [u8], out: &mut [u8]) -> ToolStep
-    ensures { λ r. ⌜ r ≡ arrivalResult lab state (now (frame .entry)) (length (now (room .entry))) (length (now (out .entry))) ⌝ }
-    ensures { λ _. ⌜ now (room .exit) ≡ arrivalRoom lab state (now (frame .entry)) (length (now (out .entry))) (now (room .entry)) ⌝ }
-    ensures { λ _. ⌜ now (out .exit) ≡ arrivalOut lab state (now (frame .entry)) (length (now (room .entry))) (now (out .entry)) ⌝ }
+// An event that means this: refused by 11 and 4, in this order, or the next state and the frame sent. Where bytes are
+// taken the request is a transfer, and their sum with those held is within bounds.
+fn event_step(
+    state: ToolState,
+    meaning: Meaning,
+    new: usize,
+    room_len: usize,
+    out: &mut [u8],
+) -> ToolStep
+    requires { ⌜ (takes meaning ≡ true → isTransfer (state .request) ≡ true) ⌝ }
+    requires { ⌜ (takes meaning ≡ true → state .held + new ≤ heldMost) ⌝ }
+    ensures { λ r. ⌜ r ≡ eventResult lab state meaning new «room_len» (length (now (out .entry))) ⌝ }
+    ensures { λ _. ⌜ now (out .exit) ≡ eventOut lab state meaning «room_len» (now (out .entry)) ⌝ }
 {
-    let number = event_number(state, room.len(), out.len());
+    let kept = state;
+    let number = event_number(state, room_len, out.len());
     if number != 0 {
         return ToolStep {
             number,
-            state,
+            state: kept,
             len: 0,
         };
     }
-    let meaning = crate::event::arrival_meaning(state, frame, room.len());
-    let data = frame::check::data_of(frame, End::Tool);
-    let new = crate::room::take_in(state, meaning, data, room);
     let len = crate::after::write_sent(state, meaning, out);
     ToolStep {
         number: 0,
@@ -126,23 +135,56 @@ pub fn arrived(state: ToolState, frame: &[u8], room: &mut [u8], out: &mut [u8]) 
     }
 }
 
-// A wait ends without a frame. Refused by 11 and 4, in this order; the room is only looked at.
+// A string arrives, good frame or not, at a tool with a room of this length: the step without the bytes taken.
+// Refused by 11 and 4, in this order.
+pub fn arrival_step(state: ToolState, frame: &[u8], room_len: usize, out: &mut [u8]) -> ToolStep
+    ensures { λ r. ⌜ r ≡ arrivalResult lab state (now (frame .entry)) «room_len» (length (now (out .entry))) ⌝ }
+    ensures { λ _. ⌜ now (out .exit) ≡ arrivalOut lab state (now (frame .entry)) «room_len» (now (out .entry)) ⌝ }
+{
+    let arrival = arrival::event::arrival_of(state, frame, room_len);
+    let meaning = arrival.meaning;
+    event_step(state, meaning, arrival.new, room_len, out)
+}
+
+// The same with the room itself, which takes the new bytes.
+pub fn arrived(state: ToolState, frame: &[u8], room: &mut [u8], out: &mut [u8]) -> ToolStep
+    ensures { λ r. ⌜ r ≡
+        arrivalResult lab state (now (frame .entry)) (length (now (room .entry))) (length (now (out .entry))) ⌝ }
+    ensures { λ _. ⌜ now (room .exit) ≡
+        arrivalRoom lab state (now (frame .entry)) (length (now (out .entry))) (now (room .entry)) ⌝ }
+    ensures { λ _. ⌜ now (out .exit) ≡
+        arrivalOut lab state (now (frame .entry)) (length (now (room .entry))) (now (out .entry)) ⌝ }
+{
+    let arrival = arrival::event::arrival_of(state, frame, room.len());
+    let meaning = arrival.meaning;
+    let received = arrival.received;
+    let place = arrival.place;
+    let step = event_step(state, meaning, arrival.new, room.len(), out);
+    if step.number != 0 {
+        return step;
+    }
+    crate::room::take_in(
+        state,
+        meaning,
+        received,
+        octets::buffer::part(frame, place),
+        room,
+    );
+    step
+}
+
+// A wait ends without a frame, at a tool with a room of this length. Refused by 11 and 4, in this order.
+pub fn wait_step(state: ToolState, room_len: usize, out: &mut [u8]) -> ToolStep
+    ensures { λ r. ⌜ r ≡ waitResult lab state «room_len» (length (now (out .entry))) ⌝ }
+    ensures { λ _. ⌜ now (out .exit) ≡ waitOut lab state «room_len» (now (out .entry)) ⌝ }
+{
+    event_step(state, Meaning::FailedWait, 0, room_len, out)
+}
+
+// The same with the room itself, which is only looked at.
 pub fn wait_ended(state: ToolState, room: &[u8], out: &mut [u8]) -> ToolStep
     ensures { λ r. ⌜ r ≡ waitResult lab state (length (now (room .entry))) (length (now (out .entry))) ⌝ }
     ensures { λ _. ⌜ now (out .exit) ≡ waitOut lab state (length (now (room .entry))) (now (out .entry)) ⌝ }
 {
-    let number = event_number(state, room.len(), out.len());
-    if number != 0 {
-        return ToolStep {
-            number,
-            state,
-            len: 0,
-        };
-    }
-    let len = crate::after::write_sent(state, Meaning::FailedWait, out);
-    ToolStep {
-        number: 0,
-        state: crate::after::state_after(state, Meaning::FailedWait, 0),
-        len,
-    }
+    wait_step(state, room.len(), out)
 }

@@ -1,67 +1,13 @@
-// The download tool (document 01, The tool): its state, and its step and sending at every begin and event.
-use catalog::AnswerName;
-use split::SubMessage;
+// The download tool (document 01, The tool): what it sends at every begin and event, and its calls.
+use arrival::ToolState;
 
 mod after;
 pub mod call;
-mod event;
 mod room;
 mod sent;
-pub mod state;
 
-// "One request at a time: start, session, upload, exit, stop or a transfer."
-pub enum Request {
-    Start,
-    Session,
-    Upload,
-    Exit,
-    Stop,
-    Transfer,
-}
-
-// How the last request stands; Fresh: nothing was begun.
-pub enum Outcome {
-    Fresh,
-    Waiting,
-    Done,
-    NoAnswer,
-    NoRoom,
-    // ended by this wire code
-    Refused(u8),
-}
-
-// The request with its TREP and day, how it stands, the sendings of its last frame, the number expected and the bytes held.
-pub struct ToolState {
-    pub request: Request,
-    pub outcome: Outcome,
-    pub name: AnswerName,
-    pub sendings: u8,
-    pub expected: SubMessage,
-    pub held: u32,
-}
-
-// What an event means to a waiting tool.
-pub enum Meaning {
-    Ignored,
-    // a wait's end, a frame refused by the frame rules, or a number above the one expected
-    FailedWait,
-    // the reply to a fixed request
-    Confirmed,
-    // the whole answer in one frame
-    WholeAnswer,
-    // the sub message expected, and more to follow
-    SubMessageTaken,
-    // the sub message expected, and the last one
-    LastTaken,
-    // the whole answer does not fit the room
-    NoRoomForAnswer,
-    // the sub message expected does not fit the room
-    NoRoomForSubMessage,
-    // a wire code other than 78
-    RefusedBy(u8),
-}
-
-// What a call hands back: refused, the state handed in and nothing sent; else the next state and the length of the frame sent, 0 for none.
+// What a call hands back: refused, the state handed in and nothing sent; else the next state and the length of the
+// frame sent, 0 for none.
 pub struct ToolStep {
     pub number: u8,
     pub state: ToolState,

@@ -1,28 +1,26 @@
-// The frames that the tool sends, and the replies that it waits for.
-use crate::Request;
+// The frames that the tool sends.
+use arrival::Request;
 use catalog::AnswerName;
 use frame::End;
 use frame::messages::EXIT;
-use frame::messages::EXITED;
 use frame::messages::SESSION;
-use frame::messages::SESSION_OPENED;
-use frame::messages::STARTED;
 use frame::messages::STOP;
-use frame::messages::STOPPED;
 use frame::messages::UPLOAD;
-use frame::messages::UPLOAD_GRANTED;
+use octets::wire::ACKNOWLEDGE;
+use octets::wire::ANSWER;
+use octets::wire::TRANSFER_DATA;
 use split::AckCode;
 use split::SubMessage;
 ghost use mathlib.Core.Path.{_≡_};
 ghost use Prim.Native.Nat.{_-_, _≤_};
 ghost use lib.ListN.{length};
-ghost use Rattle.octets.specs.Buffer.{front, sameBytes};
+ghost use Rattle.octets.specs.Buffer.{front};
 ghost use Rattle.frame.specs.Frame.{lab, frameOf};
 ghost use Rattle.frame.specs.declared.End.the-variants as ends;
 ghost use Rattle.split.specs.Codes.{sub};
-ghost use Rattle.tool.specs.Sent.{transferRequest, acknowledgement, transferData, frameSent, sidSent, replyWanted};
+ghost use Rattle.tool.specs.Sent.{transferRequest, acknowledgement, transferData, frameSent};
 
-// Each writer answers the length of the frame, which stands at the front of `out`; 260 bytes are enough for every frame.
+// Each writer answers the length of the frame, which stands at the front of `out`; 260 bytes take every frame.
 fn write_data(data: &[u8], out: &mut [u8]) -> usize
     requires { ⌜ 1 ≤ length (now «data») ⌝ }
     requires { ⌜ length (now «data») ≤ 255 ⌝ }
@@ -42,10 +40,10 @@ fn write_transfer_request(name: AnswerName, out: &mut [u8]) -> usize
     let trep = name.trep;
     let day = name.day;
     if !catalog::is_activities(trep) {
-        return write_data(&[0x36, trep], out);
+        return write_data(&[TRANSFER_DATA, trep], out);
     }
     let data = [
-        0x36,
+        TRANSFER_DATA,
         trep,
         (day / 256 / 256 / 256 % 256) as u8,
         (day / 256 / 256 % 256) as u8,
@@ -62,7 +60,7 @@ pub(crate) fn write_acknowledgement(code: AckCode, out: &mut [u8]) -> usize
     ensures { λ _. ⌜ now (out .exit) ≡ front (frameOf lab ends.Unit (acknowledgement code)) (now (out .entry)) ⌝ }
 {
     let c = code.0;
-    let data = [0x83, 0x76, (c / 256 % 256) as u8, (c % 256) as u8];
+    let data = [ACKNOWLEDGE, ANSWER, (c / 256 % 256) as u8, (c % 256) as u8];
     write_data(&data, out)
 }
 
@@ -81,7 +79,8 @@ fn before(expected: SubMessage) -> SubMessage
 fn write_transfer(name: AnswerName, expected: SubMessage, out: &mut [u8]) -> usize
     requires { ⌜ 260 ≤ length (now out) ⌝ }
     ensures { λ n. ⌜ n ≡ length (frameOf lab ends.Unit (transferData name (expected .0))) ⌝ }
-    ensures { λ _. ⌜ now (out .exit) ≡ front (frameOf lab ends.Unit (transferData name (expected .0))) (now (out .entry)) ⌝ }
+    ensures { λ _. ⌜ now (out .exit) ≡
+        front (frameOf lab ends.Unit (transferData name (expected .0))) (now (out .entry)) ⌝ }
 {
     if expected.0 == 1 {
         return write_transfer_request(name, out);
@@ -110,33 +109,5 @@ pub(crate) fn write_request(
         Request::Exit => write_data(&EXIT, out),
         Request::Stop => write_data(&STOP, out),
         Request::Transfer => write_transfer(name, expected, out),
-    }
-}
-
-// The SID that a refusal of the last frame names.
-pub(crate) fn sid_sent(request: Request, expected: SubMessage) -> u8
-    ensures { λ r. ⌜ r ≡ sidSent request (expected .0) ⌝ }
-{
-    match request {
-        Request::Start => 0x81,
-        Request::Session => 0x10,
-        Request::Upload => 0x35,
-        Request::Exit => 0x37,
-        Request::Stop => 0x82,
-        Request::Transfer => { if expected.0 == 1 { 0x36 } else { 0x83 } }
-    }
-}
-
-// Whether the data is the reply to a fixed request, byte by byte; a transfer has no such reply.
-pub(crate) fn is_reply(request: Request, data: &[u8]) -> bool
-    ensures { λ r. ⌜ r ≡ sameBytes (now («data» .entry)) (replyWanted request) ⌝ }
-{
-    match request {
-        Request::Start => octets::buffer::same(data, &STARTED),
-        Request::Session => octets::buffer::same(data, &SESSION_OPENED),
-        Request::Upload => octets::buffer::same(data, &UPLOAD_GRANTED),
-        Request::Exit => octets::buffer::same(data, &EXITED),
-        Request::Stop => octets::buffer::same(data, &STOPPED),
-        Request::Transfer => octets::buffer::same(data, b""),
     }
 }

@@ -1,41 +1,21 @@
 // The lengths of W7 to W10 and of the longest answer: sub messages written, read and joined again.
 use crate::print;
 use frame::End;
-use octets::Place;
-use split::Received;
 use split::SubMessage;
 
-fn place(len: usize) -> Place {
-    Place {
-        number: 0,
-        start: 0,
-        len,
-    }
-}
-
-fn is_answer(received: Received) -> bool {
-    match received {
-        Received::Whole => true,
-        Received::Full => true,
-        Received::Last => true,
-        Received::Above => false,
-        Received::Other => false,
-    }
-}
+const LENGTHS: [usize; 6] = [252, 253, 501, 502, 59998, 59999];
 
 // Sub message k of `data`, as the tool reads it, put behind the bytes that `room` holds; how many it holds then.
 fn step(data: &[u8], k: u16, room: &mut [u8], held: usize) -> usize {
     let mut out = [0u8; 260];
     let written = split::write::write_sub_message(data, 0x31, SubMessage(k), &mut out);
-    let field = frame::check::data_of(octets::buffer::part(&out, place(written.len)), End::Tool);
-    let received = split::join::receive(field, 0x31, SubMessage(k));
-    let new = split::join::carried(field, received);
+    let field = frame::check::data_of(
+        octets::buffer::part(&out, crate::front(written.len)),
+        End::Tool,
+    );
+    let new = split::join::carried(field, split::join::receive(field, 0x31, SubMessage(k)));
     if k < 4 || field.len() < 255 {
-        print::text(b", LEN ");
-        print::number(field.len());
-    }
-    if !is_answer(received) {
-        return held;
+        print::number(b", LEN ", field.len());
     }
     if room.len() < held {
         return held;
@@ -58,23 +38,18 @@ fn joined(data: &[u8], room: &mut [u8], count: usize) -> usize {
     held
 }
 
-// The first `len` bytes of `all` as an answer.
-fn answer(all: &[u8], len: usize, room: &mut [u8]) {
-    let data = octets::buffer::part(all, place(len));
+// An answer with these data bytes.
+fn answer(data: &[u8], room: &mut [u8]) {
     let counted = split::pieces::sub_messages(data.len());
-    print::number(data.len());
-    print::text(b" data bytes: number ");
-    print::number(octets::big_endian::wide(counted.number));
-    print::text(b", sub messages ");
-    print::number(counted.count);
+    print::number(b"", data.len());
+    print::number(
+        b" data bytes: number ",
+        octets::big_endian::usize_of(counted.number),
+    );
+    print::number(b", sub messages ", counted.count);
     let held = joined(data, room, counted.count);
-    print::text(b", joined ");
-    print::number(held);
-    if octets::buffer::same(octets::buffer::part(room, place(held)), data) {
-        print::text(b", the same\n");
-    } else {
-        print::text(b", not the same\n");
-    }
+    print::number(b", joined ", held);
+    print::same(octets::buffer::part(room, crate::front(held)), data);
 }
 
 fn filled() -> [u8; 60000] {
@@ -90,10 +65,12 @@ fn filled() -> [u8; 60000] {
 pub(crate) fn lengths() {
     let data = filled();
     let mut room = [0u8; 60000];
-    answer(&data, 252, &mut room);
-    answer(&data, 253, &mut room);
-    answer(&data, 501, &mut room);
-    answer(&data, 502, &mut room);
-    answer(&data, 59998, &mut room);
-    answer(&data, 59999, &mut room);
+    let mut i: usize = 0;
+    while i < 6 {
+        answer(
+            octets::buffer::part(&data, crate::front(LENGTHS[i])),
+            &mut room,
+        );
+        i += 1;
+    }
 }

@@ -3,11 +3,19 @@ mod lengths;
 mod print;
 mod table;
 
+use octets::Place;
+
+// The first bytes of a slice, so many.
+fn front(len: usize) -> Place {
+    Place {
+        number: 0,
+        start: 0,
+        len,
+    }
+}
+
 fn main() {
-    table::requests();
-    table::transfer_requests();
-    table::acknowledgements();
-    table::responses();
+    table::rows();
     table::transfer_responses();
     table::negative_responses();
     lengths::lengths();

@@ -2,280 +2,174 @@
 use crate::print;
 use frame::End;
 use octets::Place;
+use octets::Written;
+ghost use Prim.Native.Nat.{_≤_, _<_};
+ghost use lib.ListN.{length};
 
-fn other(end: End) -> End {
-    match end {
-        End::Unit => End::Tool,
-        End::Tool => End::Unit,
-    }
-}
+// A row is a name and bytes, each behind its length. Here are the frames that the table gives whole, to the unit and to
+// the
+// tool.
+const TO_UNIT: [u8; 340] = *b"\
+    \x13start communication\x05\x81\xee\xf0\x81\xe0\
+    \x18start diagnostic session\x07\x80\xee\xf0\x02\x10\x81\xf1\
+    \x0everify 9600 Bd\x09\x80\xee\xf0\x04\x87\x01\x01\x01\xec\
+    \x0fverify 19200 Bd\x09\x80\xee\xf0\x04\x87\x01\x01\x02\xed\
+    \x0fverify 38400 Bd\x09\x80\xee\xf0\x04\x87\x01\x01\x03\xee\
+    \x0fverify 57600 Bd\x09\x80\xee\xf0\x04\x87\x01\x01\x04\xef\
+    \x10verify 115200 Bd\x09\x80\xee\xf0\x04\x87\x01\x01\x05\xf0\
+    \x14transition baud rate\x08\x80\xee\xf0\x03\x87\x02\x03\xed\
+    \x0erequest upload\x0f\x80\xee\xf0\x0a\x35\x00\x00\x00\x00\x00\xff\xff\xff\xff\x99\
+    \x1adownload interface version\x07\x80\xee\xf0\x02\x36\x00\x96\
+    \x15request transfer exit\x06\x80\xee\xf0\x01\x37\x96\
+    \x12stop communication\x06\x80\xee\xf0\x01\x82\xe1";
+
+const TO_TOOL: [u8; 266] = *b"\
+    \x25positive response start communication\x08\x80\xf0\xee\x03\xc1\xea\x8f\x9b\
+    \x22positive response start diagnostic\x07\x80\xf0\xee\x02\x50\x81\x31\
+    \x22positive response verify baud rate\x07\x80\xf0\xee\x02\xc7\x01\x28\
+    \x20positive response request upload\x08\x80\xf0\xee\x03\x75\x00\xff\xd5\
+    \x27positive response request transfer exit\x06\x80\xf0\xee\x01\x77\xd6\
+    \x24positive response stop communication\x06\x80\xf0\xee\x01\xc2\x21";
+
+// The data of frames of which the table leaves bytes open.
+const REQUESTS: [u8; 354] = *b"\
+    \x08overview\x02\x36\x01\
+    \x08overview\x02\x36\x21\
+    \x08overview\x02\x36\x31\
+    \x0aactivities\x06\x36\x02\x00\x01\x51\x80\
+    \x0aactivities\x06\x36\x22\x00\x01\x51\x80\
+    \x0aactivities\x06\x36\x32\x00\x01\x51\x80\
+    \x11events and faults\x02\x36\x03\
+    \x11events and faults\x02\x36\x23\
+    \x11events and faults\x02\x36\x33\
+    \x0edetailed speed\x02\x36\x04\
+    \x0edetailed speed\x02\x36\x24\
+    \x0etechnical data\x02\x36\x05\
+    \x0etechnical data\x02\x36\x25\
+    \x0etechnical data\x02\x36\x35\
+    \x0dcard download\x02\x36\x06\
+    \x0dcard download\x03\x36\x06\x01\
+    \x0dcard download\x03\x36\x06\x02\
+    \x17acknowledge sub message\x04\x83\x76\x00\x02\
+    \x17acknowledge sub message\x04\x83\x76\xff\xff";
+
+const TREPS: [u8; 15] = *b"\x00\x01\x02\x03\x04\x05\x21\x22\x23\x24\x25\x31\x32\x33\x35";
+
+const SIDS: [u8; 8] = *b"\x81\x10\x87\x35\x36\x37\x82\x83";
+
+const CODES: [u8; 9] = *b"\x10\x11\x12\x13\x22\x31\x50\x78\xfa";
 
 // The number of the frame at its end and at the other one.
-fn judged(name: &[u8], bytes: &[u8], end: End) {
+fn judged(name: &[u8], frame: &[u8], end: End, other: End) {
     print::text(name);
-    print::bytes(bytes);
-    print::text(b": at its end ");
-    print::number(octets::big_endian::wide(frame::check::check(bytes, end)));
-    print::text(b", at the other end ");
-    print::number(octets::big_endian::wide(frame::check::check(bytes, other(end))));
+    print::bytes(frame);
+    print::number(
+        b": at its end ",
+        octets::big_endian::usize_of(frame::check::check(frame, end)),
+    );
+    print::number(
+        b", at the other end ",
+        octets::big_endian::usize_of(frame::check::check(frame, other)),
+    );
 }
 
-fn same(a: &[u8], b: &[u8]) {
-    if octets::buffer::same(a, b) {
-        print::text(b", the same\n");
-    } else {
-        print::text(b", not the same\n");
+// Writes a frame anew from its data; the start of communication has a form of its own.
+fn anew(frame: &[u8], end: End, out: &mut [u8]) -> Written {
+    if frame.len() == 5 {
+        return frame::messages::write_start(out);
     }
+    frame::write::write(frame::check::data_of(frame, end), end, out)
 }
 
-// A frame that the table gives whole: judged, and written anew from its data.
-fn whole(name: &[u8], bytes: &[u8], end: End) {
+// A frame that the table gives whole: judged, and written anew.
+fn whole(name: &[u8], bytes: &[u8], end: End, other: End) {
     let mut out = [0u8; 260];
-    judged(name, bytes, end);
-    let written = frame::write::write(frame::check::data_of(bytes, end), end, &mut out);
-    print::text(b", written anew ");
-    print::number(octets::big_endian::wide(written.number));
-    let place = Place {
-        number: 0,
-        start: 0,
-        len: written.len,
-    };
-    same(octets::buffer::part(&out, place), bytes);
+    judged(name, bytes, end, other);
+    let written = anew(bytes, end, &mut out);
+    print::number(
+        b", written anew ",
+        octets::big_endian::usize_of(written.number),
+    );
+    print::same(octets::buffer::part(&out, crate::front(written.len)), bytes);
 }
 
 // A frame of which the table leaves bytes open: written from its data, judged, and its data read back.
-fn of_data(name: &[u8], data: &[u8], end: End) {
+fn of_data(name: &[u8], data: &[u8], end: End, other: End) {
     let mut out = [0u8; 260];
     let written = frame::write::write(data, end, &mut out);
-    let place = Place {
-        number: 0,
-        start: 0,
-        len: written.len,
-    };
-    let bytes = octets::buffer::part(&out, place);
-    judged(name, bytes, end);
+    let bytes = octets::buffer::part(&out, crate::front(written.len));
+    judged(name, bytes, end, other);
     print::text(b", data read back");
-    same(frame::check::data_of(bytes, end), data);
+    print::same(frame::check::data_of(bytes, end), data);
 }
 
-fn start() {
-    let mut out = [0u8; 5];
-    let bytes = b"\x81\xee\xf0\x81\xe0";
-    judged(b"start communication", bytes, End::Unit);
-    let written = frame::messages::write_start(&mut out);
-    print::text(b", written anew ");
-    print::number(octets::big_endian::wide(written.number));
-    same(&out, bytes);
+// Where the bytes lie whose length stands at `at`.
+fn field(rows: &[u8], at: usize) -> Place
+    ensures { λ r. ⌜ (r .start ≤ length (now (rows .entry))) × (r .len < 256) ⌝ }
+{
+    if rows.len() <= at {
+        return Place {
+            number: 0,
+            start: 0,
+            len: 0,
+        };
+    }
+    Place {
+        number: 0,
+        start: at + 1,
+        len: octets::big_endian::usize_of(rows[at]),
+    }
 }
 
-fn session_requests() {
-    start();
-    whole(
-        b"start diagnostic session",
-        b"\x80\xee\xf0\x02\x10\x81\xf1",
-        End::Unit,
-    );
+// Each row in turn.
+fn run(rows: &[u8], count: usize, is_whole: bool, end: End, other: End) {
+    let mut at = 0;
+    let mut i = 0;
+    while i < count {
+        let first = field(rows, at);
+        let second = field(rows, first.start + first.len);
+        let name = octets::buffer::part(rows, first);
+        let bytes = octets::buffer::part(rows, second);
+        if is_whole {
+            whole(name, bytes, end, other);
+        } else {
+            of_data(name, bytes, end, other);
+        }
+        at = second.start + second.len;
+        i += 1;
+    }
 }
 
-fn low_rates() {
-    whole(
-        b"verify 9600 Bd",
-        b"\x80\xee\xf0\x04\x87\x01\x01\x01\xec",
-        End::Unit,
-    );
-    whole(
-        b"verify 19200 Bd",
-        b"\x80\xee\xf0\x04\x87\x01\x01\x02\xed",
-        End::Unit,
-    );
-    whole(
-        b"verify 38400 Bd",
-        b"\x80\xee\xf0\x04\x87\x01\x01\x03\xee",
-        End::Unit,
-    );
+pub(crate) fn rows() {
+    run(&TO_UNIT, 12, true, End::Unit, End::Tool);
+    run(&REQUESTS, 19, false, End::Unit, End::Tool);
+    run(&TO_TOOL, 6, true, End::Tool, End::Unit);
 }
 
-fn high_rates() {
-    whole(
-        b"verify 57600 Bd",
-        b"\x80\xee\xf0\x04\x87\x01\x01\x04\xef",
-        End::Unit,
-    );
-    whole(
-        b"verify 115200 Bd",
-        b"\x80\xee\xf0\x04\x87\x01\x01\x05\xf0",
-        End::Unit,
-    );
-    whole(
-        b"transition baud rate",
-        b"\x80\xee\xf0\x03\x87\x02\x03\xed",
-        End::Unit,
-    );
-}
-
-fn upload_requests() {
-    whole(
-        b"request upload",
-        b"\x80\xee\xf0\x0a\x35\x00\x00\x00\x00\x00\xff\xff\xff\xff\x99",
-        End::Unit,
-    );
-    whole(
-        b"download interface version",
-        b"\x80\xee\xf0\x02\x36\x00\x96",
-        End::Unit,
-    );
-    whole(
-        b"request transfer exit",
-        b"\x80\xee\xf0\x01\x37\x96",
-        End::Unit,
-    );
-    whole(
-        b"stop communication",
-        b"\x80\xee\xf0\x01\x82\xe1",
-        End::Unit,
-    );
-}
-
-pub(crate) fn requests() {
-    session_requests();
-    low_rates();
-    high_rates();
-    upload_requests();
-}
-
-// A transfer request without a day.
-fn transfer(name: &[u8], trtp: u8) {
-    let data = [0x36, trtp];
-    of_data(name, &data, End::Unit);
-}
-
-// The activities of 2 January 1970.
-fn activities(trtp: u8) {
-    let data = [0x36, trtp, 0x00, 0x01, 0x51, 0x80];
-    of_data(b"activities", &data, End::Unit);
-}
-
-fn slot(number: u8) {
-    let data = [0x36, 0x06, number];
-    of_data(b"card download", &data, End::Unit);
-}
-
-fn overviews() {
-    transfer(b"overview", 0x01);
-    transfer(b"overview", 0x21);
-    transfer(b"overview", 0x31);
-    activities(0x02);
-    activities(0x22);
-    activities(0x32);
-}
-
-fn events() {
-    transfer(b"events and faults", 0x03);
-    transfer(b"events and faults", 0x23);
-    transfer(b"events and faults", 0x33);
-    transfer(b"detailed speed", 0x04);
-    transfer(b"detailed speed", 0x24);
-}
-
-fn technical_data() {
-    transfer(b"technical data", 0x05);
-    transfer(b"technical data", 0x25);
-    transfer(b"technical data", 0x35);
-    transfer(b"card download", 0x06);
-    slot(1);
-    slot(2);
-}
-
-pub(crate) fn transfer_requests() {
-    overviews();
-    events();
-    technical_data();
-}
-
-pub(crate) fn acknowledgements() {
-    of_data(b"acknowledge sub message", b"\x83\x76\x00\x02", End::Unit);
-    of_data(b"acknowledge sub message", b"\x83\x76\xff\xff", End::Unit);
-}
-
-pub(crate) fn responses() {
-    whole(
-        b"positive response start communication",
-        b"\x80\xf0\xee\x03\xc1\xea\x8f\x9b",
-        End::Tool,
-    );
-    whole(
-        b"positive response start diagnostic",
-        b"\x80\xf0\xee\x02\x50\x81\x31",
-        End::Tool,
-    );
-    whole(
-        b"positive response verify baud rate",
-        b"\x80\xf0\xee\x02\xc7\x01\x28",
-        End::Tool,
-    );
-    whole(
-        b"positive response request upload",
-        b"\x80\xf0\xee\x03\x75\x00\xff\xd5",
-        End::Tool,
-    );
-    whole(
-        b"positive response request transfer exit",
-        b"\x80\xf0\xee\x01\x77\xd6",
-        End::Tool,
-    );
-    whole(
-        b"positive response stop communication",
-        b"\x80\xf0\xee\x01\xc2\x21",
-        End::Tool,
-    );
-}
-
-const TREPS: [u8; 15] = [
-    0x00,
-    0x01,
-    0x02,
-    0x03,
-    0x04,
-    0x05,
-    0x21,
-    0x22,
-    0x23,
-    0x24,
-    0x25,
-    0x31,
-    0x32,
-    0x33,
-    0x35,
-];
-
-// One data byte for each TREP of the table.
+// One data byte for each TREP.
 pub(crate) fn transfer_responses() {
-    let mut i = 0;
+    let mut i: usize = 0;
     while i < 15 {
-        let data = [0x76, TREPS[i], 0x5A];
-        of_data(b"positive response transfer data", &data, End::Tool);
+        of_data(
+            b"positive response transfer data",
+            &[0x76, TREPS[i], 0x5A],
+            End::Tool,
+            End::Unit,
+        );
         i += 1;
     }
 }
 
-const SIDS: [u8; 8] = [0x81, 0x10, 0x87, 0x35, 0x36, 0x37, 0x82, 0x83];
-
-const CODES: [u8; 9] = [0x10, 0x11, 0x12, 0x13, 0x22, 0x31, 0x50, 0x78, 0xFA];
-
-fn negative_responses_to(sid: u8) {
-    let mut i = 0;
-    while i < 9 {
-        let data = [0x7F, sid, CODES[i]];
-        of_data(b"negative response", &data, End::Tool);
-        i += 1;
-    }
-}
-
-// Every code of the table to every request.
+// Every code to every request.
 pub(crate) fn negative_responses() {
-    let mut i = 0;
-    while i < 8 {
-        negative_responses_to(SIDS[i]);
+    let mut i: usize = 0;
+    while i < 72 {
+        of_data(
+            b"negative response",
+            &[0x7F, SIDS[i / 9], CODES[i % 9]],
+            End::Tool,
+            End::Unit,
+        );
         i += 1;
     }
 }

@@ -7,10 +7,23 @@ use Rattle.session.proofs.steps.Statement.{statement}
 use Rattle.session.proofs.steps.Tie as tie
 
 abbrev Inv-loop : tie.InvT-loop
-Inv-loop store room₀ line₀ lens₀ session₀ k₀ room line lens session k = (k ≤ 8) × (length room ≡ length room₀) × (length line ≡ length line₀) × (length lens ≡ length lens₀)
+Inv-loop store room₀ session₀ k₀ room session k = (k ≤ 8) × (length room ≡ length room₀)
 
 abbrev μ-loop : tie.MeasureT-loop
-μ-loop store room₀ line₀ lens₀ session₀ k₀ room line lens session k = 8 - k
+μ-loop store room₀ session₀ k₀ room session k = 8 - k
 
 pub steps-spec : {M : Type 1} → statement M
-steps-spec = tie.close (tie.spec Inv-loop μ-loop (λ c κs. search needs) (λ c. search needs) (λ c κs. search needs) (λ c. search needs) (λ c. search needs) (λ c. search needs) (λ c. search needs) (λ c. search needs) (λ c. search needs) (λ c. search needs))
+steps-spec =
+    tie.close
+    (tie.spec
+    Inv-loop
+    μ-loop
+    (λ c κs. search needs)
+    (λ c κs. search needs)
+    (λ c. search needs)
+    (λ c κs. search needs)
+    (λ c. search needs)
+    (λ c. search needs)
+    (λ c. search needs)
+    (λ c. search needs)
+    (λ c. search needs))

@@ -7,4 +7,15 @@ use Rattle.host.proofs.pack_tool.is_state.Tie as tie
 ruleset all = (needs, tool-length, tool-request, tool-outcome, tool-refused, tool-code)
 
 pub is-state-spec : {M : Type 1} → statement M
-is-state-spec = tie.close (tie.spec (λ c. search all) (λ c. search all) (λ c. search all) (λ c. search all) (λ c. search all) (λ c. search all) (λ c. search all) (λ c. search all) (λ c. search all))
+is-state-spec =
+    tie.close
+    (tie.spec
+    (λ c. search all)
+    (λ c. search all)
+    (λ c. search all)
+    (λ c. search all)
+    (λ c. search all)
+    (λ c. search all)
+    (λ c. search all)
+    (λ c. search all)
+    (λ c. search all))

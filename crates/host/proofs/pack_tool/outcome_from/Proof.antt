@@ -7,4 +7,12 @@ use Rattle.host.proofs.pack_tool.outcome_from.Tie as tie
 
 pub outcome-from-spec : {M : Type 1} → statement M
 unfolding outcomeFrom
-outcome-from-spec = tie.close (tie.spec (λ c. search (cond-t, cond-f, eq-eqb, ne-eqb) depth 9) (λ c. search (cond-t, cond-f, eq-eqb, ne-eqb) depth 9) (λ c. search (cond-t, cond-f, eq-eqb, ne-eqb) depth 9) (λ c. search (cond-t, cond-f, eq-eqb, ne-eqb) depth 9) (λ c. search (cond-t, cond-f, eq-eqb, ne-eqb) depth 9) (λ c. search (cond-t, cond-f, eq-eqb, ne-eqb) depth 9))
+outcome-from-spec =
+    tie.close
+    (tie.spec
+    (λ c. search (cond-t, cond-f, eq-eqb, ne-eqb) depth 9)
+    (λ c. search (cond-t, cond-f, eq-eqb, ne-eqb) depth 9)
+    (λ c. search (cond-t, cond-f, eq-eqb, ne-eqb) depth 9)
+    (λ c. search (cond-t, cond-f, eq-eqb, ne-eqb) depth 9)
+    (λ c. search (cond-t, cond-f, eq-eqb, ne-eqb) depth 9)
+    (λ c. search (cond-t, cond-f, eq-eqb, ne-eqb) depth 9))

@@ -1,4 +1,4 @@
--- The bytes of the state, copied once.
+-- The bytes of the state.
 use Rattle.host.proofs.ToolLaws.{tool-packed}
 use borrow.Author.Needs.{needs}
 use Rattle.host.proofs.pack_tool.pack.Statement.{statement}
@@ -7,4 +7,20 @@ use Rattle.host.proofs.pack_tool.pack.Tie as tie
 ruleset all = (needs, tool-packed)
 
 pub pack-spec : {M : Type 1} → statement M
-pack-spec = tie.close (tie.spec (λ c κs. search all) (λ c κs. search all) (λ c κs. search all) (λ c. search all) (λ c. search all) (λ c. search all) (λ c. search all) (λ c. search all) (λ c. search all) (λ c. search all) (λ c. search all) (λ c. search all) (λ c. search all) (λ c. search all) (λ c κs. search all) (λ c. search all) (λ c. search all))
+pack-spec =
+    tie.close
+    (tie.spec
+    (λ c κs. search all)
+    (λ c κs. search all)
+    (λ c κs. search all)
+    (λ c. search all)
+    (λ c. search all)
+    (λ c. search all)
+    (λ c. search all)
+    (λ c. search all)
+    (λ c. search all)
+    (λ c. search all)
+    (λ c. search all)
+    (λ c. search all)
+    (λ c. search all)
+    (λ c. search all))

@@ -7,4 +7,12 @@ use Rattle.host.proofs.pack_tool.request_from.Tie as tie
 
 pub request-from-spec : {M : Type 1} → statement M
 unfolding requestFrom
-request-from-spec = tie.close (tie.spec (λ c. search (cond-t, cond-f, eq-eqb, ne-eqb) depth 9) (λ c. search (cond-t, cond-f, eq-eqb, ne-eqb) depth 9) (λ c. search (cond-t, cond-f, eq-eqb, ne-eqb) depth 9) (λ c. search (cond-t, cond-f, eq-eqb, ne-eqb) depth 9) (λ c. search (cond-t, cond-f, eq-eqb, ne-eqb) depth 9) (λ c. search (cond-t, cond-f, eq-eqb, ne-eqb) depth 9))
+request-from-spec =
+    tie.close
+    (tie.spec
+    (λ c. search (cond-t, cond-f, eq-eqb, ne-eqb) depth 9)
+    (λ c. search (cond-t, cond-f, eq-eqb, ne-eqb) depth 9)
+    (λ c. search (cond-t, cond-f, eq-eqb, ne-eqb) depth 9)
+    (λ c. search (cond-t, cond-f, eq-eqb, ne-eqb) depth 9)
+    (λ c. search (cond-t, cond-f, eq-eqb, ne-eqb) depth 9)
+    (λ c. search (cond-t, cond-f, eq-eqb, ne-eqb) depth 9))

@@ -8,4 +8,22 @@ use Rattle.host.proofs.pack_tool.unpack.Tie as tie
 ruleset all = (needs, flag-nt, flag-nf, tool-none, tool-some)
 
 pub unpack-spec : {M : Type 1} → statement M
-unpack-spec = tie.close (tie.spec (λ c κs. search all) (λ c κs. search all) (λ c. search all) (λ c κs. search all) (λ c κs. search all) (λ c κs. search all) (λ c κs. search all) (λ c κs. search all) (λ c κs. search all) (λ c κs. search all) (λ c κs. search all) (λ c κs. search all) (λ c κs. search all) (λ c κs. search all) (λ c κs. search all) (λ c. search all))
+unpack-spec =
+    tie.close
+    (tie.spec
+    (λ c κs. search all)
+    (λ c κs. search all)
+    (λ c. search all)
+    (λ c κs. search all)
+    (λ c κs. search all)
+    (λ c κs. search all)
+    (λ c κs. search all)
+    (λ c κs. search all)
+    (λ c κs. search all)
+    (λ c κs. search all)
+    (λ c κs. search all)
+    (λ c κs. search all)
+    (λ c κs. search all)
+    (λ c κs. search all)
+    (λ c κs. search all)
+    (λ c. search all))

@@ -1,4 +1,4 @@
--- The bytes of the state, copied once.
+-- The bytes of the state.
 use Rattle.host.proofs.UnitLaws.{unit-packed}
 use borrow.Author.Needs.{needs}
 use Rattle.host.proofs.pack_unit.pack.Statement.{statement}
@@ -18,8 +18,5 @@ pack-spec =
     (λ c. search all)
     (λ c. search all)
     (λ c. search all)
-    (λ c. search all)
-    (λ c. search all)
-    (λ c κs. search all)
     (λ c. search all)
     (λ c. search all))

@@ -1,5 +1,5 @@
 -- No state, or the number of the state.
-use Rattle.tool.specs.declared.ToolState.{ToolState}
+use Rattle.arrival.specs.declared.ToolState.{ToolState}
 use Rattle.host.specs.Packed.{outcomeByte}
 use Rattle.host.specs.Readers.{toolOutcome}
 use Rattle.host.proofs.ReaderLaws.{no-state, state-called}

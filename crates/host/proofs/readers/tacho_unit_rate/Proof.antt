@@ -1,5 +1,5 @@
 -- No state, or the number of the state.
-use Rattle.unit.specs.declared.UnitState.{UnitState}
+use Rattle.services.specs.declared.UnitState.{UnitState}
 use Rattle.host.specs.Readers.{unitRate}
 use Rattle.host.proofs.ReaderLaws.{no-state, state-read}
 use borrow.Author.Needs.{needs}

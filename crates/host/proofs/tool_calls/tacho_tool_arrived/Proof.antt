@@ -7,4 +7,15 @@ use Rattle.host.proofs.tool_calls.tacho_tool_arrived.Tie as tie
 ruleset all = (needs, event-state, arrival-handed, arrival-kept, arrival-room, arrival-out)
 
 pub tacho-tool-arrived-spec : {M : Type 1} → statement M
-tacho-tool-arrived-spec = tie.close (tie.spec (λ c κs. search all) (λ c κs. search all) (λ c κs. search all) (λ c. search all) (λ c. search all) (λ c. search all) (λ c. (search all, (search all, (search all, search all)))))
+tacho-tool-arrived-spec =
+    tie.close
+    (tie.spec
+    (λ c κs. search all)
+    (λ c κs. search all)
+    (λ c κs. search all)
+    (λ c. search all)
+    (λ c κs. λ z. search all)
+    (λ c. search all)
+    (λ c. search all)
+    (λ c. search all)
+    (λ c. (search all, (search all, (search all, search all)))))

@@ -7,4 +7,16 @@ use Rattle.host.proofs.tool_calls.tacho_tool_begin.Tie as tie
 ruleset all = (needs, begin-state, begin-none, begin-none-kept, begin-none-out, begin-handed, begin-kept, begin-out)
 
 pub tacho-tool-begin-spec : {M : Type 1} → statement M
-tacho-tool-begin-spec = tie.close (tie.spec (λ c. search all) (λ c κs. search all) (λ c κs. search all) (λ c κs. search all) (λ c κs. search all) (λ c. search all) (λ c. search all) (λ c. search all))
+tacho-tool-begin-spec =
+    tie.close
+    (tie.spec
+    (λ c. search all)
+    (λ c κs. search all)
+    (λ c κs. search all)
+    (λ c κs. search all)
+    (λ c κs. search all)
+    (λ c. search all)
+    (λ c κs. λ z. search all)
+    (λ c. search all)
+    (λ c. search all)
+    (λ c. (search all, (search all, search all))))

@@ -7,4 +7,14 @@ use Rattle.host.proofs.tool_calls.tacho_tool_wait_ended.Tie as tie
 ruleset all = (needs, event-state, wait-handed, wait-kept, wait-out)
 
 pub tacho-tool-wait-ended-spec : {M : Type 1} → statement M
-tacho-tool-wait-ended-spec = tie.close (tie.spec (λ c κs. search all) (λ c κs. search all) (λ c κs. search all) (λ c. search all) (λ c. search all) (λ c. (search all, (search all, search all))))
+tacho-tool-wait-ended-spec =
+    tie.close
+    (tie.spec
+    (λ c κs. search all)
+    (λ c κs. search all)
+    (λ c κs. search all)
+    (λ c. search all)
+    (λ c κs. λ z. search all)
+    (λ c. search all)
+    (λ c. search all)
+    (λ c. (search all, (search all, search all))))

@@ -7,4 +7,14 @@ use Rattle.host.proofs.unit_calls.tacho_unit_fresh.Tie as tie
 ruleset all = (needs, fresh-kind, fresh-kind-kept, fresh-short, fresh-short-kept, fresh-good, fresh-good-packed)
 
 pub tacho-unit-fresh-spec : {M : Type 1} → statement M
-tacho-unit-fresh-spec = tie.close (tie.spec (λ c. search all) (λ c. search all) (λ c κs. search all) (λ c κs. search all) (λ c. search all) (λ c. search all))
+tacho-unit-fresh-spec =
+    tie.close
+    (tie.spec
+    (λ c. search all)
+    (λ c. search all)
+    (λ c κs. search all)
+    (λ c κs. search all)
+    (λ c. search all)
+    (λ c κs. search all)
+    (λ c. search all)
+    (λ c. search all))

@@ -14,5 +14,7 @@ tacho-unit-step-spec =
     (λ c κs. search all)
     (λ c κs. search all)
     (λ c. search all)
+    (λ c κs. λ z. search all)
+    (λ c. search all)
     (λ c. search all)
     (λ c. (search all, (search all, search all))))

@@ -1,5 +1,5 @@
 -- One flag for each meaning.
-use Rattle.tool.specs.Event.{takes}
+use Rattle.tool.specs.After.{takes}
 use Rattle.tool.proofs.AfterLaws.{takes-at}
 use borrow.Author.Needs.{needs}
 use Rattle.tool.proofs.after.takes_in.Statement.{statement}
@@ -9,4 +9,24 @@ ruleset all = (needs, takes-at)
 
 pub takes-in-spec : {M : Type 1} → statement M
 unfolding takes
-takes-in-spec = tie.close (tie.spec (λ c. search all) (λ c. search all) (λ c. search all) (λ c. search all) (λ c. search all) (λ c. search all) (λ c. search all) (λ c. search all) (λ c. search all) (λ c. search all) (λ c. search all) (λ c. search all) (λ c. search all) (λ c. search all) (λ c. search all) (λ c. search all) (λ c. search all) (λ c. search all))
+takes-in-spec =
+    tie.close
+    (tie.spec
+    (λ c. search all)
+    (λ c. search all)
+    (λ c. search all)
+    (λ c. search all)
+    (λ c. search all)
+    (λ c. search all)
+    (λ c. search all)
+    (λ c. search all)
+    (λ c. search all)
+    (λ c. search all)
+    (λ c. search all)
+    (λ c. search all)
+    (λ c. search all)
+    (λ c. search all)
+    (λ c. search all)
+    (λ c. search all)
+    (λ c. search all)
+    (λ c. search all))

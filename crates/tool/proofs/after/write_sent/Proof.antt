@@ -1,6 +1,7 @@
 -- One frame or none for each meaning.
-use Rattle.tool.specs.Event.{sentAfter, takes}
-use Rattle.tool.proofs.AfterLaws.{sent-at-length, sent-at-front, front-none, taken-next, third-length, third-front, again-length, again-front, stop-length, stop-front}
+use Rattle.tool.specs.After.{sentAfter, takes}
+use Rattle.tool.proofs.AfterLaws.{sent-at-length, sent-at-front, front-none, taken-next, third-length, third-front, again-length, again-front}
+use Rattle.tool.proofs.AfterLaws.{stop-length, stop-front}
 use borrow.Author.Needs.{needs}
 use Rattle.tool.proofs.after.write_sent.Statement.{statement}
 use Rattle.tool.proofs.after.write_sent.Tie as tie
@@ -9,4 +10,33 @@ ruleset all = (needs, sent-at-length, sent-at-front, front-none, taken-next, thi
 
 pub write-sent-spec : {M : Type 1} → statement M
 unfolding sentAfter takes
-write-sent-spec = tie.close (tie.spec (λ c. search all) (λ c. search all) (λ c κs. search all) (λ c. search all) (λ c. search all) (λ c. search all) (λ c. search all) (λ c κs. search all) (λ c. search all) (λ c. search all) (λ c. search all) (λ c κs. search all) (λ c κs. search all) (λ c. search all) (λ c. search all) (λ c. search all) (λ c. search all) (λ c. search all) (λ c. search all) (λ c. search all) (λ c. search all) (λ c. search all) (λ c. search all) (λ c. search all) (λ c. search all) (λ c. search all) (λ c. search all))
+write-sent-spec =
+    tie.close
+    (tie.spec
+    (λ c. search all)
+    (λ c. search all)
+    (λ c κs. search all)
+    (λ c. search all)
+    (λ c. search all)
+    (λ c. search all)
+    (λ c. search all)
+    (λ c κs. search all)
+    (λ c. search all)
+    (λ c. search all)
+    (λ c. search all)
+    (λ c κs. search all)
+    (λ c κs. search all)
+    (λ c. search all)
+    (λ c. search all)
+    (λ c. search all)
+    (λ c. search all)
+    (λ c. search all)
+    (λ c. search all)
+    (λ c. search all)
+    (λ c. search all)
+    (λ c. search all)
+    (λ c. search all)
+    (λ c. search all)
+    (λ c. search all)
+    (λ c. search all)
+    (λ c. search all))

@@ -7,4 +7,17 @@ use Rattle.tool.proofs.room.keep.Tie as tie
 ruleset all = (needs, kept)
 
 pub keep-spec : {M : Type 1} → statement M
-keep-spec = tie.close (tie.spec (λ c. search all) (λ c. search all) (λ c. search all) (λ c κs. search all) (λ c. search all) (λ c. search all) (λ c. search all) (λ c. search all) (λ c κs. search all) (λ c. search all) (λ c. search all))
+keep-spec =
+    tie.close
+    (tie.spec
+    (λ c. search all)
+    (λ c. search all)
+    (λ c. search all)
+    (λ c κs. search all)
+    (λ c. search all)
+    (λ c. search all)
+    (λ c. search all)
+    (λ c. search all)
+    (λ c κs. search all)
+    (λ c. search all)
+    (λ c. search all))

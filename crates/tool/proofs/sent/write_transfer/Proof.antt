@@ -7,4 +7,14 @@ use Rattle.tool.proofs.sent.write_transfer.Tie as tie
 ruleset all = (needs, length-data, front-data, transfer-first, transfer-next)
 
 pub write-transfer-spec : {M : Type 1} → statement M
-write-transfer-spec = tie.close (tie.spec (λ c κs. search all) (λ c. search all) (λ c. search all) (λ c κs. search all) (λ c κs. search all) (λ c κs. search all) (λ c. search all) (λ c. search all))
+write-transfer-spec =
+    tie.close
+    (tie.spec
+    (λ c κs. search all)
+    (λ c. search all)
+    (λ c. search all)
+    (λ c κs. search all)
+    (λ c κs. search all)
+    (λ c κs. search all)
+    (λ c. search all)
+    (λ c. search all))

@@ -8,4 +8,19 @@ use Rattle.tool.proofs.sent.write_transfer_request.Tie as tie
 ruleset all = (needs, flag-nt, flag-nf, length-data, front-data, request-day, request-only)
 
 pub write-transfer-request-spec : {M : Type 1} → statement M
-write-transfer-request-spec = tie.close (tie.spec (λ c κs. search all) (λ c. search all) (λ c κs. search all) (λ c. search all) (λ c. search all) (λ c. search all) (λ c. search all) (λ c. search all) (λ c. search all) (λ c. search all) (λ c κs. search all) (λ c. search all) (λ c. search all))
+write-transfer-request-spec =
+    tie.close
+    (tie.spec
+    (λ c κs. search all)
+    (λ c. search all)
+    (λ c κs. search all)
+    (λ c. search all)
+    (λ c. search all)
+    (λ c. search all)
+    (λ c. search all)
+    (λ c. search all)
+    (λ c. search all)
+    (λ c. search all)
+    (λ c κs. search all)
+    (λ c. search all)
+    (λ c. search all))

@@ -5,10 +5,24 @@ use Rattle.vectors.proofs.table.negative_responses.Statement.{statement
 use Rattle.vectors.proofs.table.negative_responses.Tie as tie
 
 abbrev Inv-loop : tie.InvT-loop
-Inv-loop i₀ i = i ≤ 8
+Inv-loop i₀ t2 i = i ≤ 72
 
 abbrev μ-loop : tie.MeasureT-loop
-μ-loop i₀ i = 8 - i
+μ-loop i₀ t2 i = 72 - i
 
 pub negative-responses-spec : {M : Type 1} → statement M
-negative-responses-spec = tie.close (tie.spec Inv-loop μ-loop (λ c. search needs) (λ c. search needs) (λ c κs. search needs) (λ c. search needs) (λ c. search needs) (λ c. search needs) (λ c. search needs))
+negative-responses-spec =
+    tie.close
+    (tie.spec
+    Inv-loop
+    μ-loop
+    (λ c. search needs)
+    (λ c. search needs)
+    (λ c. search needs)
+    (λ c. search needs)
+    (λ c. search needs)
+    (λ c κs. search needs)
+    (λ c. search needs)
+    (λ c. search needs)
+    (λ c. search needs)
+    (λ c. search needs))

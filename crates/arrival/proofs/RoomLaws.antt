@@ -1,0 +1,65 @@
+-- The new bytes of a frame, and whether they fit the room.
+use Prim.Native.Nat.{ℕ, _+_, _-_, _<_, _≤_}
+use mathlib.Core.Bool.{Bool, true, false, cond}
+use mathlib.Core.List.{List, [], _∷_, _++_}
+use mathlib.Core.Path.{_≡_, refl, sym}
+use native.Mathlib.Omega.{arith}
+use lib.Dec.{eqb, leb}
+use lib.ListN.{length, take, length-append}
+use borrow.Author.Tests.{le-leb, lt-leb, eq-eqb, ne-eqb, leb-true}
+use Rattle.octets.proofs.Tests.{and-left, and-right}
+use Rattle.split.specs.Join.{carriedBy}
+use Rattle.split.specs.declared.Received.{Received}
+use Rattle.arrival.specs.declared.ToolState.{ToolState}
+use Rattle.arrival.specs.State.{heldMost}
+use Rattle.arrival.specs.Meaning.{header, newBytes, fits}
+
+-- What a frame's data adds; n is the length of the header before what it carries, p
+
+module _ (t : ToolState) where
+  pub header-first : t .expected .0 ≡ 1 → 2 ≡ length (header t)
+  unfolding header
+  header-first e = rw (eq-eqb (t .expected .0) 1 e)
+
+  pub header-none : (t .expected .0 ≡ 1 → ⊥) → 0 ≡ length (header t)
+  unfolding header
+  header-none n = rw (ne-eqb (t .expected .0) 1 n)
+
+  header-taken : take (length (header t)) (0x76 ∷ t .name .trep ∷ []) ≡ header t
+  unfolding header
+  header-taken = go (eqb (t .expected .0) 1)
+    where
+      go : (b : Bool) → take (length (cond b (0x76 ∷ t .name .trep ∷ []) [])) (0x76 ∷ t .name .trep ∷ []) ≡ cond b (0x76 ∷ t .name .trep ∷ []) []
+      go true = refl
+      go false = refl
+
+  module _ (x : Received) (d p : List ℕ) (n : ℕ) (is : n ≡ length (header t)) (e : p ≡ carriedBy x d) where
+    pub new-length : n + length p ≡ length (newBytes t x d)
+    new-length = rw (is, e) (sym (length-append (header t) (carriedBy x d)))
+
+    pub new-bytes : take n (0x76 ∷ t .name .trep ∷ []) ++ p ≡ newBytes t x d
+    new-bytes = rw (is, e, header-taken)
+
+-- Whether they fit
+
+module _ (roomLen : ℕ) (t : ToolState) (n : ℕ) where
+  pub fits-held : roomLen < t .held → false ≡ fits roomLen t n
+  unfolding fits
+  fits-held h = rw (lt-leb (t .held + n) roomLen (omega arith))
+
+  pub fits-room : t .held ≤ roomLen → roomLen - t .held < n → false ≡ fits roomLen t n
+  unfolding fits
+  fits-room l h = rw (lt-leb (t .held + n) roomLen (omega arith))
+
+  pub fits-most : t .held ≤ roomLen → n ≤ roomLen - t .held → leb (t .held + n) heldMost ≡ fits roomLen t n
+  unfolding fits
+  fits-most l h = rw (le-leb (t .held + n) roomLen (omega arith))
+
+  -- what it says
+  pub fits-in-room : fits roomLen t n ≡ true → t .held + n ≤ roomLen
+  unfolding fits
+  fits-in-room h = leb-true _ _ (and-left (leb (t .held + n) roomLen) _ h)
+
+  pub fits-in-most : fits roomLen t n ≡ true → t .held + n ≤ heldMost
+  unfolding fits
+  fits-in-most h = leb-true _ _ (and-right (leb (t .held + n) roomLen) _ h)

@@ -1,0 +1,21 @@
+-- Refused by the number, or the state and the frame that follow.
+use Rattle.octets.proofs.CallLaws.{kept-by, changed-by, zero-by}
+use Rattle.tool.specs.Call.{eventResult, eventState, eventSent, eventOut}
+use Rattle.tool.proofs.CallLaws.{event-room, step-most, step-next, step-is, none-sent, none-written, some-sent, some-written}
+use borrow.Author.Needs.{needs}
+use Rattle.tool.proofs.call.event_step.Statement.{statement}
+use Rattle.tool.proofs.call.event_step.Tie as tie
+
+ruleset all = (needs, kept-by, changed-by, zero-by, event-room, step-most, step-next, step-is, none-sent, none-written, some-sent, some-written)
+
+pub event-step-spec : {M : Type 1} → statement M
+unfolding eventResult eventState eventSent eventOut
+event-step-spec =
+    tie.close
+    (tie.spec
+    (λ c κs. search all)
+    (λ c. search all)
+    (λ c κs. (λ k. search all, search all))
+    (λ c κs. (λ k. search all, λ k. search all))
+    (λ c. search all)
+    (λ c. search all))

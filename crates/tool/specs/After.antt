@@ -1,0 +1,87 @@
+-- What follows from an event, by what it means: the next state, the frame that goes out and the room.
+use Prim.Native.Nat.{ℕ, _+_}
+use mathlib.Core.Bool.{Bool, true, false, cond}
+use mathlib.Core.List.{List, []}
+use lib.ListN.{length}
+use lib.Dec.{leb}
+use Rattle.octets.specs.Buffer.{put}
+use Rattle.frame.specs.declared.Addresses.{Addresses}
+use Rattle.frame.specs.declared.End.the-variants as ends
+use Rattle.frame.specs.Frame.{frameOf}
+use Rattle.split.specs.Codes.{sub, stopCode}
+use Rattle.arrival.specs.declared.Outcome.{Outcome}
+use Rattle.arrival.specs.declared.Outcome.the-variants.{Waiting, Done, NoAnswer, NoRoom, Refused}
+use Rattle.arrival.specs.declared.ToolState.{ToolState}
+use Rattle.arrival.specs.declared.Meaning.{Meaning}
+use Rattle.arrival.specs.declared.Meaning.the-variants.{Ignored, FailedWait, Confirmed, WholeAnswer, SubMessageTaken}
+use Rattle.arrival.specs.declared.Meaning.the-variants.{LastTaken, NoRoomForAnswer, NoRoomForSubMessage, RefusedBy}
+use Rattle.tool.specs.Sent.{acknowledgement, frameSent}
+
+-- its bytes go into the room
+unfoldable pub takes : Meaning → Bool
+takes Ignored = false
+takes FailedWait = false
+takes Confirmed = false
+takes WholeAnswer = true
+takes SubMessageTaken = true
+takes LastTaken = true
+takes NoRoomForAnswer = false
+takes NoRoomForSubMessage = false
+takes (RefusedBy code) = false
+
+-- "An ended state keeps all as at its last wait but outcome and held length"
+abbrev pub ended : ToolState → Outcome → ℕ → ToolState
+ended t outcome held =
+    record {
+      request = t .request;
+      outcome = outcome;
+      name = t .name;
+      sendings = t .sendings;
+      expected = t .expected;
+      held = held;
+    }
+
+abbrev pub waits : ToolState → ℕ → ℕ → ℕ → ToolState
+waits t sendings e held =
+    record {
+      request = t .request;
+      outcome = Waiting;
+      name = t .name;
+      sendings = sendings;
+      expected = sub e;
+      held = held;
+    }
+
+-- "After a failed wait the same frame goes out again; after the third sending the request ends 'no answer' (DDP_027)"
+unfoldable pub afterFailedWait : ToolState → ToolState
+afterFailedWait t =
+    cond (leb 3 (t .sendings)) (ended t NoAnswer (t .held)) (waits t (t .sendings + 1) (t .expected .0) (t .held))
+
+-- the next state; n new bytes
+unfoldable pub stateAfter : ToolState → Meaning → ℕ → ToolState
+stateAfter t Ignored n = t
+stateAfter t FailedWait n = afterFailedWait t
+stateAfter t Confirmed n = ended t Done (t .held)
+stateAfter t WholeAnswer n = ended t Done (t .held + n)
+stateAfter t SubMessageTaken n = waits t 1 (t .expected .0 + 1) (t .held + n)
+stateAfter t LastTaken n = ended t Done (t .held + n)
+stateAfter t NoRoomForAnswer n = ended t NoRoom (t .held)
+stateAfter t NoRoomForSubMessage n = ended t NoRoom (t .held)
+stateAfter t (RefusedBy code) n = ended t (Refused code) (t .held)
+
+-- the frame that goes out, none for none: "expect the next, send the acknowledgement with that number";
+-- "for a sub message, code FFFF is sent"
+unfoldable pub sentAfter : Addresses → ToolState → Meaning → List ℕ
+sentAfter a t Ignored = []
+sentAfter a t FailedWait = cond (leb 3 (t .sendings)) [] (frameSent a (t .request) (t .name) (t .expected .0))
+sentAfter a t Confirmed = []
+sentAfter a t WholeAnswer = []
+sentAfter a t SubMessageTaken = frameSent a (t .request) (t .name) (t .expected .0 + 1)
+sentAfter a t LastTaken = []
+sentAfter a t NoRoomForAnswer = []
+sentAfter a t NoRoomForSubMessage = frameOf a ends.Unit (acknowledgement stopCode)
+sentAfter a t (RefusedBy code) = []
+
+-- "New bytes go into the lent room right behind those already held"; "'no room', the room unchanged"
+unfoldable pub roomAfter : ToolState → Meaning → List ℕ → List ℕ → List ℕ
+roomAfter t m new room = cond (takes m) (put (t .held) new room) room
