@@ -25,7 +25,7 @@ use Rattle.services.specs.State.{isGranted}
 use Rattle.unit.specs.State as unitStates
 use Rattle.arrival.specs.declared.Request.the-variants as requests
 use Rattle.arrival.specs.declared.Outcome.{Outcome}
-use Rattle.arrival.specs.declared.Outcome.the-variants.{Waiting, Done, NoAnswer}
+use Rattle.arrival.specs.declared.Outcome.the-variants.{Fresh, Waiting, Done, NoAnswer}
 use Rattle.arrival.specs.declared.ToolState.{ToolState}
 use Rattle.tool.specs.Call.{beginNumber}
 use Rattle.line.specs.Line.{Event}
@@ -160,7 +160,7 @@ module _ (a : Addresses) (given : Premises) where
     -- store of the begin: the next transfer can begin
     pub unitKind : unit r .kind ≡ given .unit .kind
     pub unitRate : unit r .rate ≡ given .unit .rate
-    pub unitGranted : unitStates.isGranted (unit r .phase) ≡ true
+    pub unitGranted : isGranted (unit r .phase) ≡ true
     pub unitPossible : unitStates.possible (given .store) (unit r) ≡ true
 
   -- "On a clean line without early waits, done comes at the q-th arrival at the tool, the line never empty before"

@@ -54,7 +54,7 @@ fn step(session: Session, k: usize, store: &[u8], room: &mut [u8]) -> Session {
 }
 
 fn steps(store: &[u8], room: &mut [u8]) {
-    let unit = unit::state::fresh(2);
+    let unit = services::state::fresh(2);
     let tool = arrival::state::fresh();
     let mut session = Session {
         unit,

@@ -17,7 +17,11 @@ abbrev μ-loop : tie.MeasureT-loop
 μ-loop kind byte row₀ row = 6 - row
 
 pub known-to-spec : {M : Type 1} → statement M
-known-to-spec = tie.close (tie.spec Inv-loop μ-loop
+known-to-spec =
+    tie.close
+    (tie.spec
+    Inv-loop
+    μ-loop
     (λ c. search all)
     (λ c. search all)
     (λ c κs. search all)
