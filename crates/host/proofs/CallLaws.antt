@@ -137,27 +137,24 @@ event-state step t m new roomLen outLen b p e q k n =
     (turn-taken (isTool b) (eventNumber (unpackedTool b) roomLen outLen) 0 15 b (tool-size b) (event-impossible roomLen outLen b)
     (rw (← e) (ap (λ (s : ToolStep). s .number) (sym q) ∙ n)))
 
+-- a step, as the call on packed bytes that it is
+module _ (step called : ToolStep) (is : step ≡ called) where
+  pub tool-handed : (w : Written) → w ≡ record { number = step .number; len = step .len } → w ≡ toolHanded called
+  unfolding toolHanded
+  tool-handed w k = rw (← is) k
+
+  pub tool-kept : (p b b′ : List ℕ) → p ≡ packedTool (step .state) → b′ ≡ changedBy (step .number) p b → b′ ≡ toolKept called b
+  unfolding toolKept
+  tool-kept p b b′ i k = rw (← is, ← i) k
+
 -- an event on the state t that the bytes are
-module _ (b : List ℕ) (t : ToolState) (e : t ≡ unpackedTool b) (step : ToolStep) where
-  module _ (f : List ℕ) (roomLen outLen : ℕ) (q : step ≡ arrivalResult lab t f roomLen outLen) where
-    pub arrival-handed : (w : Written) → w ≡ record { number = step .number; len = step .len } → w ≡ toolHanded (toolArrival b f roomLen outLen)
-    unfolding toolHanded
-    arrival-handed w k = rw (← e, ← q) k
-
-    pub arrival-kept : (p b′ : List ℕ) → p ≡ packedTool (step .state) → b′ ≡ changedBy (step .number) p b → b′ ≡ toolKept (toolArrival b f roomLen outLen) b
-    unfolding toolKept
-    arrival-kept p b′ i k = rw (← e, ← q, ← i) k
-
-  module _ (roomLen outLen : ℕ) (q : step ≡ waitResult lab t roomLen outLen) where
-    pub wait-handed : (w : Written) → w ≡ record { number = step .number; len = step .len } → w ≡ toolHanded (toolWait b roomLen outLen)
-    unfolding toolHanded
-    wait-handed w k = rw (← e, ← q) k
-
-    pub wait-kept : (p b′ : List ℕ) → p ≡ packedTool (step .state) → b′ ≡ changedBy (step .number) p b → b′ ≡ toolKept (toolWait b roomLen outLen) b
-    unfolding toolKept
-    wait-kept p b′ i k = rw (← e, ← q, ← i) k
-
 module _ (b : List ℕ) (t : ToolState) (e : t ≡ unpackedTool b) where
+  pub arrival-called : (step : ToolStep) (f : List ℕ) (roomLen outLen : ℕ) → step ≡ arrivalResult lab t f roomLen outLen → step ≡ toolArrival b f roomLen outLen
+  arrival-called step f roomLen outLen q = rw (← e) q
+
+  pub wait-called : (step : ToolStep) (roomLen outLen : ℕ) → step ≡ waitResult lab t roomLen outLen → step ≡ toolWait b roomLen outLen
+  wait-called step roomLen outLen q = rw (← e) q
+
   pub arrival-room : (f : List ℕ) (out : ℕ) (room room′ : List ℕ) → room′ ≡ arrivalRoom lab t f out room → room′ ≡ toolArrivalRoom b f out room
   arrival-room f out room room′ k = rw (← e) k
 
@@ -183,19 +180,9 @@ module _ (b : List ℕ) (request : ℕ) (name : AnswerName) where
   begin-none-out out h = rw (lt-leb request 5 h)
 
   module _ (h : request ≤ 5) (t : ToolState) (r : Request) (e : t ≡ unpackedTool b) (q : r ≡ requestFrom request) where
-    begun-by : (step : ToolStep) (out : ℕ) → step ≡ beginResult lab t r name out → step ≡ toolBegin b request name out
+    pub begin-called : (step : ToolStep) (out : ℕ) → step ≡ beginResult lab t r name out → step ≡ toolBegin b request name out
     unfolding toolBegin
-    begun-by step out s = rw (le-leb request 5 h, ← e, ← q) s
-
-    pub begin-handed : (step : ToolStep) (out : ℕ) (w : Written) → step ≡ beginResult lab t r name out → w ≡ record { number = step .number; len = step .len }
-        → w ≡ toolHanded (toolBegin b request name out)
-    unfolding toolHanded
-    begin-handed step out w s k = rw (← begun-by step out s) k
-
-    pub begin-kept : (step : ToolStep) (out : ℕ) (p b′ : List ℕ) → step ≡ beginResult lab t r name out → p ≡ packedTool (step .state)
-        → b′ ≡ changedBy (step .number) p b → b′ ≡ toolKept (toolBegin b request name out) b
-    unfolding toolKept
-    begin-kept step out p b′ s i k = rw (← begun-by step out s, ← i) k
+    begin-called step out s = rw (le-leb request 5 h, ← e, ← q) s
 
     pub begin-out : (out out′ : List ℕ) → out′ ≡ beginOut lab t r name out → out′ ≡ toolBeginOut b request name out
     unfolding toolBeginOut

@@ -1,10 +1,10 @@
 -- The call on the state that the bytes are.
-use Rattle.host.proofs.CallLaws.{event-state, arrival-handed, arrival-kept, arrival-room, arrival-out}
+use Rattle.host.proofs.CallLaws.{event-state, tool-handed, tool-kept, arrival-called, arrival-room, arrival-out}
 use borrow.Author.Needs.{needs}
 use Rattle.host.proofs.tool_calls.tacho_tool_arrived.Statement.{statement}
 use Rattle.host.proofs.tool_calls.tacho_tool_arrived.Tie as tie
 
-ruleset all = (needs, event-state, arrival-handed, arrival-kept, arrival-room, arrival-out)
+ruleset all = (needs, event-state, tool-handed, tool-kept, arrival-called, arrival-room, arrival-out)
 
 pub tacho-tool-arrived-spec : {M : Type 1} → statement M
 tacho-tool-arrived-spec =

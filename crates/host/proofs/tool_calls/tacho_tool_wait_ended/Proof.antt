@@ -1,10 +1,10 @@
 -- The call on the state that the bytes are.
-use Rattle.host.proofs.CallLaws.{event-state, wait-handed, wait-kept, wait-out}
+use Rattle.host.proofs.CallLaws.{event-state, tool-handed, tool-kept, wait-called, wait-out}
 use borrow.Author.Needs.{needs}
 use Rattle.host.proofs.tool_calls.tacho_tool_wait_ended.Statement.{statement}
 use Rattle.host.proofs.tool_calls.tacho_tool_wait_ended.Tie as tie
 
-ruleset all = (needs, event-state, wait-handed, wait-kept, wait-out)
+ruleset all = (needs, event-state, tool-handed, tool-kept, wait-called, wait-out)
 
 pub tacho-tool-wait-ended-spec : {M : Type 1} → statement M
 tacho-tool-wait-ended-spec =
