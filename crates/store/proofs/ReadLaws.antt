@@ -7,6 +7,7 @@ use lib.Dec.{ltb}
 use borrow.Author.Tests.{lt-ltb, le-ltb, ne-eqb}
 use Rattle.octets.specs.Search.{firstOf}
 use Rattle.octets.specs.declared.Place.{Place}
+use Rattle.octets.specs.Numbers.{refusedPlace}
 use Rattle.catalog.specs.Name.{sameAnswer}
 use Rattle.catalog.specs.declared.AnswerName.{AnswerName}
 use Rattle.catalog.proofs.NameLaws.{absent-unlisted}
@@ -27,14 +28,14 @@ position-by f s name n i p e = rw (← p) (sym e)
 
 module _ (f : Form) (s : List ℕ) (name : AnswerName) (z : storeNumber f s ≡ 0) where
   -- a held answer has a listed TREP, and FF is none
-  pub find-none : name .trep ≡ 0xFF → _≡_ {A = Place} (record { number = 6; start = 0; len = 0 }) (lookupPlace f name s)
+  pub find-none : (place : Place) → name .trep ≡ 0xFF → place ≡ refusedPlace 6 → place ≡ lookupPlace f name s
   unfolding lookupPlace lookupNumber
-  find-none e = rw (z, missing-not f name s (unlisted-missing f name s z (rw e absent-unlisted)))
+  find-none place e q = rw q (rw (z, missing-not f name s (unlisted-missing f name s z (rw e absent-unlisted))))
 
   module _ (i n : ℕ) (p : i ≡ position f name s) (q : n ≡ answers f s) where
-    pub find-missing : n ≤ i → _≡_ {A = Place} (record { number = 6; start = 0; len = 0 }) (lookupPlace f name s)
+    pub find-missing : (place : Place) → n ≤ i → place ≡ refusedPlace 6 → place ≡ lookupPlace f name s
     unfolding lookupPlace lookupNumber
-    find-missing h = rw (z, ← p, ← q, le-ltb i n h)
+    find-missing place h e = rw e (rw (z, ← p, ← q, le-ltb i n h))
 
     pub find-found : (b l : ℕ) → i < n → b ≡ answerStart f i s → l ≡ entryLength f i s
         → _≡_ {A = Place} (record { number = 0; start = b; len = l }) (lookupPlace f name s)
@@ -46,15 +47,15 @@ module _ (f : Form) (s : List ℕ) (name : AnswerName) (z : storeNumber f s ≡ 
 -- A lookup; r is the number of the check
 
 module _ (f : Form) (s : List ℕ) (name : AnswerName) (r : ℕ) (e : r ≡ storeNumber f s) where
-  pub place-broken : (r ≡ 0 → ⊥) → _≡_ {A = Place} (record { number = r; start = 0; len = 0 }) (lookupPlace f name s)
+  pub place-broken : (place : Place) → (r ≡ 0 → ⊥) → place ≡ refusedPlace r → place ≡ lookupPlace f name s
   unfolding lookupPlace lookupNumber
-  place-broken z = rw (← e, ne-eqb r 0 z, ne-eqb r 0 z)
+  place-broken place z q = rw q (rw (← e, ne-eqb r 0 z, ne-eqb r 0 z))
 
 -- Two of them
 module _ (f : Form) (s : List ℕ) (first second : AnswerName) (r : ℕ) (e : r ≡ storeNumber f s) where
   pub both-broken : (p : Place) → (r ≡ 0 → ⊥) → p ≡ record { number = r; start = 0; len = 0 }
       → _≡_ {A = TwoPlaces} (record { number = r; first = p; second = p }) (lookupBoth f first second s)
-  both-broken p z q = rw (← e, ← place-broken f s first r e z, ← place-broken f s second r e z, q)
+  both-broken p z q = rw (← e, ← place-broken f s first r e p z q, ← place-broken f s second r e p z q)
 
   pub both-found : (p q : Place) → r ≡ 0 → p ≡ lookupPlace f first s → q ≡ lookupPlace f second s
       → _≡_ {A = TwoPlaces} (record { number = 0; first = p; second = q }) (lookupBoth f first second s)
@@ -67,9 +68,9 @@ number-of-place f s name place e = ap (λ (p : Place). p .number) e
 -- The stream
 
 module _ (f : Form) (s : List ℕ) (r : ℕ) (e : r ≡ storeNumber f s) where
-  pub stream-broken : (r ≡ 0 → ⊥) → _≡_ {A = Place} (record { number = r; start = 0; len = 0 }) (streamPlace f s)
+  pub stream-broken : (place : Place) → (r ≡ 0 → ⊥) → place ≡ refusedPlace r → place ≡ streamPlace f s
   unfolding streamPlace
-  stream-broken z = rw (← e, ne-eqb r 0 z)
+  stream-broken place z q = rw q (rw (← e, ne-eqb r 0 z))
 
   pub stream-found : (b t : ℕ) → r ≡ 0 → b ≡ streamStart f s → t ≡ streamLength f s
       → _≡_ {A = Place} (record { number = 0; start = b; len = t }) (streamPlace f s)

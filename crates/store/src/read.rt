@@ -37,19 +37,11 @@ fn find(store: &[u8], name: AnswerName) -> Place
     ensures { λ r. ⌜ r ≡ lookupPlace narrow name (now (store .entry)) ⌝ }
 {
     if name.trep == ABSENT {
-        return Place {
-            number: NOT_HELD,
-            start: 0,
-            len: 0,
-        };
+        return octets::refused_place(NOT_HELD);
     }
     let i = position(store, name);
     if crate::layout::answers(store) <= i {
-        return Place {
-            number: NOT_HELD,
-            start: 0,
-            len: 0,
-        };
+        return octets::refused_place(NOT_HELD);
     }
     Place {
         number: 0,
@@ -64,11 +56,7 @@ pub fn locate(store: &[u8], name: AnswerName) -> Place
 {
     let number = crate::check::check(store);
     if number != 0 {
-        return Place {
-            number,
-            start: 0,
-            len: 0,
-        };
+        return octets::refused_place(number);
     }
     find(store, name)
 }
@@ -79,11 +67,7 @@ pub fn locate_both(store: &[u8], first: AnswerName, second: AnswerName) -> TwoPl
 {
     let number = crate::check::check(store);
     if number != 0 {
-        let nowhere = Place {
-            number,
-            start: 0,
-            len: 0,
-        };
+        let nowhere = octets::refused_place(number);
         return TwoPlaces {
             number,
             first: nowhere,
@@ -117,11 +101,7 @@ pub fn locate_stream(store: &[u8]) -> Place
 {
     let number = crate::check::check(store);
     if number != 0 {
-        return Place {
-            number,
-            start: 0,
-            len: 0,
-        };
+        return octets::refused_place(number);
     }
     Place {
         number: 0,

@@ -9,7 +9,9 @@ ruleset all = (needs, checked-start, checked-entry, find-none, find-missing, fin
 
 pub find-spec : {M : Type 1} → statement M
 find-spec = tie.close (tie.spec
+    (λ c κs. search all)
     (λ c. search all)
+    (λ c κs. search all)
     (λ c κs. search all)
     (λ c κs. search all)
     (λ c. search all)

@@ -9,6 +9,7 @@ ruleset all = (needs, place-broken)
 pub locate-spec : {M : Type 1} → statement M
 locate-spec = tie.close (tie.spec
     (λ c κs. search all)
+    (λ c κs. search all)
     (λ c. search all)
     (λ c κs. search all)
     (λ c. search all))

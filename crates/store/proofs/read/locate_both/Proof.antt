@@ -9,6 +9,7 @@ ruleset all = (needs, both-broken, both-found)
 pub locate-both-spec : {M : Type 1} → statement M
 locate-both-spec = tie.close (tie.spec
     (λ c κs. search all)
+    (λ c κs. search all)
     (λ c. search all)
     (λ c κs. search all)
     (λ c κs. search all)

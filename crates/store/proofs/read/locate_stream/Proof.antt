@@ -9,6 +9,7 @@ ruleset all = (needs, stream-broken, stream-found)
 pub locate-stream-spec : {M : Type 1} → statement M
 locate-stream-spec = tie.close (tie.spec
     (λ c κs. search all)
+    (λ c κs. search all)
     (λ c. search all)
     (λ c κs. search all)
     (λ c κs. search all)
