@@ -10,10 +10,13 @@ ghost use Rattle.split.specs.Split.{countOf, subMessages, pieceNumber, p
 // The most data bytes of an answer.
 pub const DATA_MOST: usize = 59998;
 
+// The data bytes of a full sub message.
+pub const PIECE: usize = 251;
+
 fn count_of(len: usize) -> usize
     ensures { λ r. ⌜ r ≡ countOf len ⌝ }
 {
-    if len <= 252 { 1 } else { len / 251 + 1 }
+    if len <= 252 { 1 } else { len / PIECE + 1 }
 }
 
 // How many sub messages an answer with `len` data bytes takes; 8 for over 59,998 bytes.
@@ -67,8 +70,8 @@ pub fn locate(len: usize, number: SubMessage) -> Place
             len,
         };
     }
-    let start = (k - 1) * 251;
-    if len - start < 251 {
+    let start = (k - 1) * PIECE;
+    if len - start < PIECE {
         return Place {
             number: 0,
             start,
@@ -78,7 +81,7 @@ pub fn locate(len: usize, number: SubMessage) -> Place
     Place {
         number: 0,
         start,
-        len: 251,
+        len: PIECE,
     }
 }
 
