@@ -4,6 +4,7 @@ use crate::Request;
 use crate::ToolState;
 use catalog::AnswerName;
 use split::SubMessage;
+use split::pieces::PIECE;
 ghost use mathlib.Core.Path.{_≡_};
 ghost use Prim.Native.Nat.{_<_};
 ghost use Rattle.arrival.specs.State.{freshTool, isTransfer, isWaiting, heldRight, transferPossible, possible};
@@ -52,7 +53,7 @@ pub fn is_waiting(outcome: Outcome) -> bool
 }
 
 // Whether so many bytes are held with this number expected: every sub message before it was full.
-fn held_right(expected: u32, held: u32) -> bool
+fn held_right(expected: usize, held: usize) -> bool
     requires { ⌜ expected < 65536 ⌝ }
     ensures { λ r. ⌜ r ≡ heldRight expected held ⌝ }
 {
@@ -62,7 +63,7 @@ fn held_right(expected: u32, held: u32) -> bool
     if expected < 2 {
         return false;
     }
-    held == 2 + 251 * (expected - 1)
+    held == 2 + PIECE * (expected - 1)
 }
 
 fn transfer_possible(state: ToolState, room_len: usize) -> bool
@@ -73,7 +74,7 @@ fn transfer_possible(state: ToolState, room_len: usize) -> bool
     if catalog::name_number(name) != 0 {
         return false;
     }
-    if !held_right(state.expected.0 as u32, state.held) {
+    if !held_right(state.expected.0 as usize, held) {
         return false;
     }
     if room_len < held {
