@@ -63,7 +63,8 @@ fn append_number(store: &[u8], answer: &[u8], day: u32) -> u8
 fn write_header(store: &mut [u8], count: u32, stream: u32)
     requires { ⌜ headerSize narrow ≤ length (now store) ⌝ }
     ensures { λ _. ⌜ now (store .exit)
-        ≡ put (length (narrow .mark)) (bytesOf (narrow .width) count ++ bytesOf (narrow .width) stream) (now (store .entry)) ⌝ }
+        ≡ put (length (narrow .mark)) (bytesOf (narrow .width) count ++ bytesOf (narrow .width) stream)
+        (now (store .entry)) ⌝ }
 {
     octets::big_endian::write_number(store, 0, FIELD, count);
     octets::big_endian::write_number(store, FIELD, FIELD, stream);
@@ -72,7 +73,8 @@ fn write_header(store: &mut [u8], count: u32, stream: u32)
 fn write_entry(store: &mut [u8], at: usize, day: u32, offset: u32, len: u32)
     requires { ⌜ at + entrySize narrow ≤ length (now store) ⌝ }
     ensures { λ _. ⌜ now (store .exit)
-        ≡ put at (bytesOf 4 day ++ (bytesOf (narrow .width) offset ++ bytesOf (narrow .width) len)) (now (store .entry)) ⌝ }
+        ≡ put at (bytesOf 4 day ++ (bytesOf (narrow .width) offset ++ bytesOf (narrow .width) len))
+        (now (store .entry)) ⌝ }
 {
     octets::big_endian::write_number(store, at, DAY, day);
     octets::big_endian::write_number(store, at + DAY, FIELD, offset);

@@ -17,7 +17,8 @@ use Rattle.arrival.specs.declared.Request.{Request}
 use Rattle.arrival.specs.declared.ToolState.{ToolState}
 use Rattle.arrival.specs.declared.Meaning.the-variants.{FailedWait}
 use Rattle.arrival.specs.Meaning.{arrivalMeaning}
-use Rattle.tool.specs.Call.{beginNumber, beginState, beginSent, beginResult, beginOut, eventSent, eventResult, eventOut, arrivalResult, arrivalOut, waitResult, waitOut}
+use Rattle.tool.specs.Call.{beginNumber, beginState, beginSent, beginResult, beginOut, eventSent, eventResult, eventOut, arrivalResult, arrivalOut, waitResult}
+use Rattle.tool.specs.Call.{waitOut}
 
 module _ (a : Addresses) (out : List ℕ) where
   pub unit-string : (store : List ℕ) (u : UnitState) (b : List ℕ)

@@ -1,6 +1,6 @@
 -- What the tool does at the strings of one transfer.
 use Prim.Native.Nat.{ℕ, zero, suc, _+_, _-_, _*_, _/_, _%_, _<_, _≤_}
-use mathlib.Core.Bool.{Bool, true, false}
+use mathlib.Core.Bool.{true, false}
 use mathlib.Core.List.{List, [], _++_}
 use mathlib.Core.Path.{_≡_, refl, sym, ap, _∙_}
 use native.Mathlib.Omega.{arith}
@@ -267,7 +267,8 @@ module _ (g : Premises) where
           (λ t.
           let s = ltb-false 252 (length (answerData g)) t in
           let z : p ≡ 0 = omega (arith, count-one (length (answerData g)) s) in
-          let r : receivedAs (g .name .trep) (suc p) (subField (g .name .trep) (suc p) (answerData g)) ≡ Whole = rw z (whole-is (g .name .trep) (answerData g) s) in
+          let r : receivedAs (g .name .trep) (suc p) (subField (g .name .trep) (suc p) (answerData g)) ≡ Whole =
+          rw z (whole-is (g .name .trep) (answerData g) s) in
           let j : heldWith g p ++ newBytes (toolWith Waiting (suc f) (suc p) p .state) Whole (subField (g .name .trep) (suc p) (answerData g)) ≡ heldWith g (suc p) = rw z (joins-whole (suc f) s) in
           framed (suc p) Whole r ∙ rw (new-fits _ j) (ends-whole _ j) ∙ at-last)
         where

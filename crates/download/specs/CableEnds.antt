@@ -54,13 +54,20 @@ strings (x ∷ xs) = (x ∷ xs) ∷ []
 module _ (a : Addresses) where
   abbrev pub unitCall : UnitGiven → UnitState → List ℕ → Result (List ℕ) UnitState
   unitCall c u b =
-      record { next = unitResult a (c .store) (c .reply) u b .state; out = strings (unitReply a (c .store) (c .reply) u b) }
+      record {
+        next = unitResult a (c .store) (c .reply) u b .state;
+        out = strings (unitReply a (c .store) (c .reply) u b);
+      }
 
   abbrev pub toolArrival : ℕ → ToolRoom → List ℕ → Result (List ℕ) ToolRoom
   toolArrival output t b =
       record {
-        next = record { state = arrivalResult a (t .state) b (length (t .room)) output .state; room = arrivalRoom a (t .state) b output (t .room) };
-        out = strings (eventSent a (t .state) (arrivalMeaning a (length (t .room)) (t .state) b) (length (t .room)) output);
+        next = record {
+          state = arrivalResult a (t .state) b (length (t .room)) output .state;
+          room = arrivalRoom a (t .state) b output (t .room);
+        };
+        out = strings
+            (eventSent a (t .state) (arrivalMeaning a (length (t .room)) (t .state) b) (length (t .room)) output);
       }
 
   abbrev pub toolWaitEnd : ℕ → ToolRoom → Result (List ℕ) ToolRoom
@@ -90,7 +97,8 @@ module _ (a : Addresses) where
         unitCall = unitCall;
         toolArrival = toolArrival;
         toolWaitEnd = toolWaitEnd;
-        toolBegin = λ b t. cond (eqb (beginNumber (t .state) (b .request) (b .name) (b .output)) 0) (some (toolBegun b t)) none;
+        toolBegin = λ b t.
+            cond (eqb (beginNumber (t .state) (b .request) (b .name) (b .output)) 0) (some (toolBegun b t)) none;
         hostSets = λ v u. u;
       }
 

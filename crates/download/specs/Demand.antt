@@ -118,7 +118,9 @@ module _ (a : Addresses) (given : Premises) where
         toolPremise = λ output. 260 ≤ output;
         hasRoom = λ c. leb 260 (c .reply);
         unit = given .unit;
-        begun = toolBegun a (record { request = requests.Transfer; name = given .name; output = given .output }) (record { state = given .tool; room = given .room });
+        begun = toolBegun a
+            (record { request = requests.Transfer; name = given .name; output = given .output })
+            (record { state = given .tool; room = given .room });
       }
 
   -- the unit and the tool after some events, and the bytes that the tool holds in its room

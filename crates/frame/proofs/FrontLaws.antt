@@ -1,15 +1,15 @@
 -- The length of the frame at the front, from the tests of the code, and of every good frame.
 use Prim.Native.Nat.{ℕ, _+_, _<_, _≤_}
-use mathlib.Core.Bool.{Bool, true, false, cond, _||_}
+use mathlib.Core.Bool.{Bool, true, false, _||_}
 use mathlib.Core.List.{List, _++_}
 use mathlib.Core.Logic.{_⊎_, inl, inr, ⊎-elim}
-use mathlib.Core.Path.{_≡_, refl, sym, ap, _∙_}
+use mathlib.Core.Path.{_≡_, refl, sym, _∙_}
 use native.Mathlib.Omega.{arith}
 use native.Mathlib.Decide.{decLt}
 use lib.Dec.{eqb}
 use lib.ListN.{length, getD, take, length-append, List·getD-append}
 use lib.Seq.{length-take-le, getD-take}
-use borrow.Author.Tests.{le-leb, lt-leb, eq-eqb, ne-eqb, leb-true, eqb-true}
+use borrow.Author.Tests.{le-leb, lt-leb, eq-eqb, ne-eqb, eqb-true}
 use Rattle.octets.proofs.Tests.{never}
 use Rattle.frame.specs.declared.End.{End}
 use Rattle.frame.specs.declared.Addresses.{Addresses}
@@ -47,7 +47,9 @@ module _ (a : Addresses) (end : End) (f : List ℕ) (right : judged a end f ≡ 
   told-start e = sym (front-start s some (first ∙ e)) ∙ sym (count-start f (good a end f right .count) (eq-eqb (getD f 0 0) 0x81 e))
 
   told-len : getD f 0 0 ≡ 0x80 → 4 ≤ length s → getD s 3 0 ≡ getD f 3 0 → frameLength s ≡ length f
-  told-len e l q = sym (front-long s some (first ∙ e) (getD f 3 0) l (sym q)) ∙ sym (count-general f (good a end f right .count) (ne-eqb (getD f 0 0) 0x81 (λ z. omega arith)))
+  told-len e l q =
+      sym (front-long s some (first ∙ e) (getD f 3 0) l (sym q))
+      ∙ sym (count-general f (good a end f right .count) (ne-eqb (getD f 0 0) 0x81 (λ z. omega arith)))
 
   not-told : getD f 0 0 ≡ 0x80 → length s < 4 → frameLength s ≡ 0
   not-told e l = sym (front-few s some (first ∙ e) l)

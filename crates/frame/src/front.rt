@@ -2,7 +2,8 @@
 ghost use mathlib.Core.Path.{_≡_};
 ghost use Rattle.frame.specs.Front.{frameLength};
 
-// The length of the frame at the front of the bytes received so far, 0 while more are needed to tell. A byte that begins no frame is 1.
+// The length of the frame at the front of the bytes received so far, 0 while more are needed to tell. A byte that
+// begins no frame is 1.
 pub fn frame_length(received: &[u8]) -> usize
     ensures { λ r. ⌜ r ≡ frameLength (now (received .entry)) ⌝ }
 {

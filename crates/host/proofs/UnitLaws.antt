@@ -77,7 +77,8 @@ module _ (b : List ℕ) where
 
 -- Packing
 
-pub unit-packed : (u : UnitState) (byte : ℕ) (name : AnswerName) (last : SubMessage) → byte ≡ phaseByte (u .phase) → name ≡ nameSent (u .phase) → last ≡ lastSent (u .phase)
+pub unit-packed : (u : UnitState) (byte : ℕ) (name : AnswerName) (last : SubMessage) → byte ≡ phaseByte (u .phase) → name ≡ nameSent (u .phase)
+    → last ≡ lastSent (u .phase)
     → u .kind ∷ u .rate ∷ u .pending ∷ byte ∷ name .trep ∷ name .day / 256 / 256 / 256 % 256 ∷ name .day / 256 / 256 % 256 ∷ name .day / 256 % 256 ∷ name .day % 256
     ∷ last .0 / 256 % 256 ∷ last .0 % 256 ∷ []
     ≡ packedUnit u

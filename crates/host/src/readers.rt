@@ -4,7 +4,8 @@ use crate::pack_tool::outcome_byte;
 use crate::pack_unit::phase_byte;
 use octets::big_endian::usize_of;
 ghost use mathlib.Core.Path.{_≡_};
-ghost use Rattle.host.specs.Readers.{unitKind, unitRate, unitPhase, toolOutcome, toolCode, toolExpected, toolHeld};
+ghost use Rattle.host.specs.Readers.{unitKind, unitRate, unitPhase, toolOutcome, toolCode, toolExpected};
+ghost use Rattle.host.specs.Readers.{toolHeld};
 
 // No number of a state.
 const NO_STATE: usize = 0xFFFFFFFFFFFFFFFF;

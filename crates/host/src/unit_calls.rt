@@ -31,9 +31,15 @@ pub extern "C" fn tacho_unit_step(
     frame: &[u8],
     reply: &mut [u8],
 ) -> Written
-    ensures { λ r. ⌜ r ≡ unitHanded (unitStep (now (state .entry)) (now (store .entry)) (length (now (reply .entry))) (now (frame .entry))) ⌝ }
-    ensures { λ _. ⌜ now (state .exit) ≡ unitKept (unitStep (now (state .entry)) (now (store .entry)) (length (now (reply .entry))) (now (frame .entry))) (now (state .entry)) ⌝ }
-    ensures { λ _. ⌜ now (reply .exit) ≡ unitStepReply (now (state .entry)) (now (store .entry)) (now (frame .entry)) (now (reply .entry)) ⌝ }
+    ensures { λ r. ⌜ r
+        ≡ unitHanded
+        (unitStep (now (state .entry)) (now (store .entry)) (length (now (reply .entry))) (now (frame .entry))) ⌝ }
+    ensures { λ _. ⌜ now (state .exit)
+        ≡ unitKept
+        (unitStep (now (state .entry)) (now (store .entry)) (length (now (reply .entry))) (now (frame .entry)))
+        (now (state .entry)) ⌝ }
+    ensures { λ _. ⌜ now (reply .exit)
+        ≡ unitStepReply (now (state .entry)) (now (store .entry)) (now (frame .entry)) (now (reply .entry)) ⌝ }
 {
     let was = crate::pack_unit::unpack(state);
     let step = unit::call::step(was, store, frame, reply);

@@ -2,7 +2,7 @@
 -- what is proved from the facts is of something, and the definitions run on them.
 use mathlib.Core.Path.{_≡_, refl}
 use mathlib.Core.Bool.{Bool, true, false, cond, _&&_}
-use mathlib.Core.List.{List, [], _∷_, _++_}
+use mathlib.Core.List.{List, [], _∷_}
 use mathlib.Core.Option.{Option, none, some}
 use Prim.Native.Nat.{ℕ, zero, suc, _≤_}
 use native.Mathlib.Omega.{arith}
@@ -11,7 +11,7 @@ use borrow.Author.Tests.{eq-eqb, ne-eqb, le-leb, leb-true}
 use Rattle.line.specs.Line.{Result, silent, sends, Ends, End, unitEnd, toolEnd, lost, repeated, spoiled}
 use Rattle.line.specs.Line.{Event, arrivesAtUnit, arrivesAtTool, waitEnds, lineChanges, beginRefused, hostActs}
 use Rattle.line.specs.Book.{Transfer, Outcome, waiting, done, noAnswer, heldOff, Run, run, start}
-use Rattle.line.specs.Premises.{AllAllowed, AllClean, AllPlain}
+use Rattle.line.specs.Premises.{AllAllowed, AllClean}
 use Rattle.line.specs.Facts.{Facts}
 use Rattle.line.specs.Claims.{AfterAllowed, AfterClean}
 use Rattle.line.proofs.Cases.{byTest, never}

@@ -2,7 +2,7 @@
 use mathlib.Core.Path.{_≡_, refl}
 use mathlib.Core.Bool.{Bool, true, false, cond}
 use mathlib.Core.List.{List, [], _∷_, _++_, append-nil}
-use Prim.Native.Nat.{ℕ, zero, suc, _+_, _*_, _≤_, _<_}
+use Prim.Native.Nat.{ℕ, zero, suc, _+_, _≤_, _<_}
 use native.Mathlib.Omega.{arith}
 use native.Mathlib.Nat.{add-zero}
 use lib.Dec.{eqb}
@@ -10,7 +10,7 @@ use borrow.Author.Tests.{eq-eqb, ne-eqb, eqb-true, eqb-false}
 use Rattle.line.specs.Line.{Result, silent, sends, Ends, End, unitEnd, toolEnd, System, unitCalled, toolCalled, unitArrives, toolArrives, hostActed}
 use Rattle.line.specs.Line.{behindBegin, step}
 use Rattle.line.specs.Line.{Change, lineChanged, Event, arrivesAtUnit, arrivesAtTool, waitEnds, lineChanges, beginRefused, hostActs}
-use Rattle.line.specs.Book.{Transfer, Outcome, waiting, done, noAnswer, heldOff, Book, newBook, failedWait, askedForTime, whileWaiting, waitsAnew, fed}
+use Rattle.line.specs.Book.{Transfer, Outcome, waiting, done, noAnswer, heldOff, Book, newBook, failedWait, whileWaiting, waitsAnew, fed}
 use Rattle.line.specs.Book.{Run, next, run, start}
 use Rattle.line.specs.Premises.{Spoils, Allowed, Unrepeated, Each}
 use Rattle.line.specs.Facts.{Facts, Owes, Waits}

@@ -2,11 +2,11 @@
 use mathlib.Core.Path.{_≡_, refl}
 use mathlib.Core.Bool.{true}
 use mathlib.Core.List.{List, [], _∷_}
-use Prim.Native.Nat.{ℕ, suc, _≤_}
+use Prim.Native.Nat.{ℕ, suc}
 use native.Mathlib.Omega.{arith}
 use Rattle.line.specs.Line.{Ends, System, Event, step}
 use Rattle.line.specs.Book.{Transfer, Outcome, waiting, done, noAnswer, heldOff, Book, Run, run, start}
-use Rattle.line.specs.Premises.{Allowed, Plain, Unrepeated, Each, AllAllowed, AllPlain}
+use Rattle.line.specs.Premises.{Each, AllAllowed, AllPlain}
 use Rattle.line.specs.Facts.{Facts}
 use Rattle.line.specs.Claims.{unnumbered, AfterAllowed, AfterPlain, ToolIs, Agrees}
 use Rattle.line.proofs.Cases.{never}

@@ -1,12 +1,11 @@
 -- The packed calls: each is the Rattle call on the unpacked state, packed again.
-use Prim.Native.Nat.{ℕ, _<_, _≤_}
+use Prim.Native.Nat.{ℕ, _<_}
 use mathlib.Core.Bool.{Bool, true, false, cond}
-use mathlib.Core.List.{List, []}
-use mathlib.Core.Path.{_≡_, refl, sym, ap, _∙_}
+use mathlib.Core.List.{List}
+use mathlib.Core.Path.{_≡_, refl, ap}
 use native.Mathlib.Omega.{arith}
-use lib.Dec.{eqb, leb}
-use lib.ListN.{length, getD, take}
-use borrow.Author.Tests.{le-leb, lt-ltb}
+use lib.Dec.{eqb}
+use lib.ListN.{length, getD}
 use Rattle.octets.specs.Numbers.{changedBy}
 use Rattle.octets.specs.Buffer.{Bytes, front}
 use Rattle.octets.proofs.NumberLaws.{number-fits}
@@ -16,29 +15,26 @@ use Rattle.split.specs.declared.SubMessage.{SubMessage}
 use Rattle.services.specs.declared.Phase.{Phase}
 use Rattle.services.specs.declared.Phase.the-variants.{Closed, Started, Session, Granted, Sending}
 use Rattle.services.specs.declared.UnitState.{UnitState}
-use Rattle.services.specs.State.{freshUnit}
 use Rattle.services.specs.After.{stateAfter}
-use Rattle.unit.specs.Call.{reactionTo, unitNumber, unitState, unitReply, unitResult, unitOut}
+use Rattle.unit.specs.Call.{reactionTo, unitNumber, unitState, unitReply, unitResult}
 use Rattle.unit.proofs.BoundLaws as units
-use Rattle.arrival.specs.declared.Request.{Request}
-use Rattle.arrival.specs.declared.Meaning.{Meaning}
 use Rattle.arrival.specs.declared.Meaning.the-variants.{FailedWait}
 use Rattle.arrival.specs.declared.ToolState.{ToolState}
-use Rattle.arrival.specs.State.{freshTool, isWaiting}
+use Rattle.arrival.specs.State.{isWaiting}
 use Rattle.arrival.specs.Meaning.{arrivalMeaning, arrivalBytes}
 use Rattle.tool.specs.After.{stateAfter as toolAfter}
-use Rattle.tool.specs.Call.{begun, beginNumber, beginState, beginSent, beginResult, beginOut, eventNumber, eventState, eventSent, eventRoom, eventResult, eventOut, arrivalResult, arrivalRoom, arrivalOut, waitResult, waitOut}
+use Rattle.tool.specs.Call.{eventNumber, eventState, eventSent, eventRoom, eventResult, eventOut, arrivalRoom}
 use Rattle.tool.proofs.BoundLaws as tools
-use Rattle.host.specs.Packed.{phaseFrom, nameSent, lastSent, packedUnit, unitName, unitLast, isUnit, unpackedUnit, requestFrom, packedTool, isTool}
+use Rattle.host.specs.Packed.{phaseFrom, nameSent, lastSent, packedUnit, unitName, unitLast, isUnit, unpackedUnit, packedTool, isTool}
 use Rattle.host.specs.Packed.{unpackedTool}
 use Rattle.host.specs.Calls as calls
-use Rattle.host.specs.Calls.{unitHanded, unitKept, unitStep, unitStepReply, toolHanded, toolKept, toolWait}
-use Rattle.host.proofs.UnitLaws.{unit-back, unit-again}
-use Rattle.host.proofs.ToolLaws.{tool-back, tool-again, outcome-kept}
+use Rattle.host.specs.Calls.{unitHanded, unitKept, toolHanded, toolKept}
+use Rattle.host.proofs.UnitLaws.{unit-back}
+use Rattle.host.proofs.ToolLaws.{tool-back, outcome-kept}
 use Rattle.line.specs.Line.{Result, silent}
 use Rattle.download.specs.CableEnds as cable
 use Rattle.download.specs.CableEnds.{ToolRoom, strings}
-use Rattle.download.proofs.Calls.{unit-string, arrival-string, wait-string, begin-string}
+use Rattle.download.proofs.Calls.{unit-string, arrival-string, wait-string}
 use Rattle.packed.specs.PackedEnds.{UnitGiven, ToolBytes, unitCall, toolArrival, toolWaitEnd}
 use Rattle.packed.specs.PackedDemand.{lengths}
 

@@ -10,28 +10,26 @@ use Rattle.frame.specs.Frame.{lab}
 use Rattle.split.specs.Split.{isSplit, countOf}
 use Rattle.split.specs.Codes.{sub}
 use Rattle.services.specs.declared.Phase.the-variants.{Granted, Sending}
-use Rattle.services.specs.declared.UnitState.{UnitState}
 use Rattle.services.specs.State.{possibleAt}
 use Rattle.unit.specs.State as unitStates
 use Rattle.unit.proofs.BoundLaws as unitBounds
 use Rattle.arrival.specs.declared.Request.the-variants as requests
-use Rattle.tool.specs.Call.{beginNumber, beginState, beginSent, beginResult}
+use Rattle.tool.specs.Call.{beginState, beginResult}
 use Rattle.tool.proofs.BoundLaws as toolBounds
-use Rattle.host.specs.Packed.{packedUnit, isUnit, noUnit, unpackedUnit, requestFrom, packedTool, unpackedTool}
+use Rattle.host.specs.Packed.{packedUnit, isUnit, noUnit, unpackedUnit, requestFrom}
 use Rattle.host.specs.Calls.{toolHanded, toolKept, toolBegin, toolBeginOut}
 use Rattle.host.proofs.UnitLaws.{unit-none, unit-again}
-use Rattle.line.specs.Line.{Result, silent}
+use Rattle.line.specs.Line.{silent}
 use Rattle.line.specs.Book as books
 use Rattle.line.specs.Facts.{Facts}
 use Rattle.download.specs.CableEnds as cable
-use Rattle.download.specs.CableEnds.{ToolRoom}
 use Rattle.download.specs.Demand.{Premises, CallPremise, answerData, heldWith, transfer}
 use Rattle.download.proofs.Calls.{begin-string}
 use Rattle.download.proofs.FrameFacts as frames
 use Rattle.download.proofs.UnitFacts as units
 use Rattle.download.proofs.ToolFacts as tools
 use Rattle.download.proofs.Theorem as theorem
-use Rattle.packed.specs.PackedEnds.{UnitGiven, ToolBytes, packedEnds}
+use Rattle.packed.specs.PackedEnds.{UnitGiven, packedEnds}
 use Rattle.packed.specs.PackedDemand.{StateBytes, lengths, packedTransfer}
 use Rattle.packed.proofs.Calls.{unit-fits, unit-returns, packedResult, toolBytes, packedTools, unit-called, tool-arrived, tool-waited, ended-arrived}
 use Rattle.packed.proofs.Calls.{ended-waited}

@@ -1,10 +1,8 @@
 -- From the fresh calls to a granted unit and a tool that waits.
 use Prim.Native.Nat.{ℕ, _<_, _≤_}
-use mathlib.Core.Bool.{true, false}
+use mathlib.Core.Bool.{true}
 use mathlib.Core.List.{List}
-use mathlib.Core.Path.{_≡_, refl, sym, ap, _∙_}
-use native.Mathlib.Omega.{arith}
-use lib.Dec.{ltb, leb}
+use mathlib.Core.Path.{_≡_, refl, ap, _∙_}
 use lib.ListN.{length}
 use borrow.Author.Tests.{le-leb, lt-ltb}
 use Rattle.frame.specs.Frame.{lab, judged}
@@ -16,7 +14,6 @@ use Rattle.store.specs.Check.{storeNumber}
 use Rattle.services.specs.declared.Phase.{Phase}
 use Rattle.services.specs.declared.Phase.the-variants.{Closed, Started, Session, Granted}
 use Rattle.services.specs.declared.UnitState.{UnitState}
-use Rattle.services.specs.State.{freshUnit, phasePossible, possibleAt}
 use Rattle.unit.specs.State.{possible}
 use Rattle.services.specs.Services.{onSession, onUpload}
 use Rattle.services.specs.After.{stateAfter}
@@ -24,7 +21,7 @@ use Rattle.unit.specs.Call.{reactionTo, unitNumber, unitState, unitResult}
 use Rattle.unit.proofs.BoundLaws as units
 use Rattle.arrival.specs.declared.Request.{Request}
 use Rattle.arrival.specs.declared.Request.the-variants as requests
-use Rattle.arrival.specs.State.{freshTool, noName}
+use Rattle.arrival.specs.State.{noName}
 use Rattle.tool.specs.Sent.{frameSent}
 use Rattle.tool.specs.Call.{requestNumber, beginNumber, beginResult}
 use Rattle.host.specs.Packed.{packedUnit, unpackedUnit, requestFrom}
@@ -32,7 +29,6 @@ use Rattle.host.specs.Calls.{unitFreshState, toolFreshState, toolBegin}
 use Rattle.line.specs.Line.{Result}
 use Rattle.download.proofs.Runs.{calls}
 use Rattle.download.proofs.ServiceFacts.{not-refused}
-use Rattle.packed.specs.Simulation.{UnitIs}
 use Rattle.packed.specs.Fresh.{behind, FromFresh}
 use Rattle.packed.proofs.Calls.{unit-returns, unit-called}
 use Rattle.packed.proofs.Simulation.{simulation}

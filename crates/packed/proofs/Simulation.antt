@@ -1,10 +1,9 @@
 -- Each packed call is simulated by the Rattle call.
 use Prim.Native.Nat.{ℕ, _<_, _≤_}
-use mathlib.Core.Bool.{Bool, true, false, cond}
+use mathlib.Core.Bool.{true}
 use mathlib.Core.List.{List, append-nil}
-use mathlib.Core.Path.{_≡_, refl, sym, ap, _∙_}
+use mathlib.Core.Path.{_≡_, sym, ap, _∙_}
 use native.Mathlib.Omega.{arith}
-use lib.Dec.{leb}
 use lib.ListN.{length, drop-of-length-le}
 use borrow.Author.Tests.{le-leb, lt-ltb}
 use Rattle.octets.specs.Buffer.{Bytes, front}

@@ -1,15 +1,10 @@
 -- Demand 3 over the packed ends: the facts hold of them, so the line's laws do; and what they say of the packed states, the unpacked ones are.
-use Prim.Native.Nat.{ℕ, suc, _+_, _≤_}
 use mathlib.Core.List.{List}
-use mathlib.Core.Path.{_≡_, refl, sym, ap, _∙_}
-use native.Mathlib.Omega.{arith}
-use lib.ListN.{length}
+use mathlib.Core.Path.{_≡_, refl, ap, _∙_}
 use Rattle.frame.specs.Frame.{lab}
-use Rattle.split.specs.Split.{countOf}
-use Rattle.services.specs.declared.UnitState.{UnitState}
 use Rattle.tool.proofs.BoundLaws as toolBounds
 use Rattle.host.specs.Packed.{packedUnit, unpackedUnit, packedTool, unpackedTool}
-use Rattle.line.specs.Line.{System, Event}
+use Rattle.line.specs.Line.{Event}
 use Rattle.line.specs.Book as books
 use Rattle.line.specs.Book.{Run}
 use Rattle.line.specs.Premises.{AllAllowed, AllClean}
@@ -18,13 +13,13 @@ use Rattle.line.specs.Claims as claims
 use Rattle.line.proofs.Laws as laws
 use Rattle.line.proofs.Clean as cleanLaws
 use Rattle.download.specs.CableEnds.{ToolRoom, cableEnds}
-use Rattle.download.specs.Demand.{Premises, answerData, transfer, Agrees, AgreesClean}
+use Rattle.download.specs.Demand.{Premises, transfer, Agrees, AgreesClean}
 use Rattle.download.proofs.FrameFacts as frames
 use Rattle.download.proofs.UnitFacts as units
 use Rattle.download.proofs.ToolFacts as tools
 use Rattle.download.proofs.Theorem as theorem
 use Rattle.packed.specs.PackedEnds.{ToolBytes, packedEnds}
-use Rattle.packed.specs.PackedDemand.{StateBytes, packedTransfer, unpackedRun, Packs, packedStart, packedRun, PackedClaim, PackedDemand3}
+use Rattle.packed.specs.PackedDemand.{StateBytes, packedTransfer, unpackedRun, Packs, packedStart, packedRun, PackedDemand3}
 use Rattle.packed.proofs.Calls.{toolBytes, tool-returns}
 use Rattle.packed.proofs.Facts.{unit-after-returns, waiting-fits, done-fits, no-answer-fits, packedFacts}
 

@@ -20,7 +20,7 @@ use Rattle.line.specs.Premises.{AllAllowed, AllClean}
 use Rattle.download.specs.CableEnds as cable
 use Rattle.download.specs.CableEnds.{cableEnds}
 use Rattle.download.specs.Demand.{Premises, CallPremise, transfer, Agrees, AgreesClean}
-use Rattle.packed.specs.PackedEnds.{UnitGiven, ToolBytes, toolBegun, packedEnds}
+use Rattle.packed.specs.PackedEnds.{UnitGiven, toolBegun, packedEnds}
 
 -- The premises of demand 3, with the state bytes and the output that a host has at the begin: those of a fresh tool, or
 -- of

@@ -1,13 +1,12 @@
 -- The services, from the tests of the code: requests that are one fixed byte string, transfer data, codes, the SID.
 use Prim.Native.Nat.{ℕ, _+_, _-_, _<_, _≤_}
-use mathlib.Core.Bool.{Bool, true, false, not, cond}
+use mathlib.Core.Bool.{Bool, true, false, not}
 use mathlib.Core.List.{List, [], _∷_}
 use mathlib.Core.Path.{_≡_, refl, sym, ap, _∙_}
 use native.Mathlib.Omega.{arith}
-use lib.Dec.{eqb, leb}
+use lib.Dec.{eqb}
 use lib.ListN.{length, getD}
 use borrow.Author.Tests.{le-leb, lt-leb, eq-eqb, ne-eqb, not-true, not-false}
-use Rattle.octets.specs.Order.{unless}
 use Rattle.octets.specs.Buffer.{sameBytes}
 use Rattle.octets.specs.BigEndian.{numberOf, numberAt}
 use Rattle.octets.specs.declared.Place.{Place}

@@ -2,7 +2,6 @@
 use Prim.Native.Nat.{ℕ, _+_}
 use mathlib.Core.Bool.{Bool, true, false, cond}
 use mathlib.Core.List.{List, []}
-use lib.ListN.{length}
 use lib.Dec.{leb}
 use Rattle.octets.specs.Buffer.{put}
 use Rattle.frame.specs.declared.Addresses.{Addresses}
