@@ -159,7 +159,7 @@ uint8_t tacho_unit_fresh(uint8_t kind, uint8_t *state, size_t state_len);
 tacho_written tacho_unit_step(uint8_t *state, size_t state_len, const uint8_t *store, size_t store_len, const uint8_t *frame,
                               size_t frame_len, uint8_t *reply, size_t reply_len);
 
-/* Kind, rate (1 to 5) and phase of a unit; TACHO_NO_STATE for bytes that are no state. */
+/* Kind, rate and phase of a unit as its bytes have them, a rate of 1 to 5 in a possible state; TACHO_NO_STATE for bytes that are no state. */
 size_t tacho_unit_kind(const uint8_t *state, size_t state_len);
 size_t tacho_unit_rate(const uint8_t *state, size_t state_len);
 size_t tacho_unit_phase(const uint8_t *state, size_t state_len);

@@ -65,6 +65,7 @@ module _ (name : AnswerName) (d s : List ℕ) (allowed : nameNumber name ≡ 0) 
       let was = contents-reads narrow s z in
       record {
         taken = taken;
+        unbroken = made .unbroken;
         stream = reads .total ∙ ap (λ (x : List Stored). length (backToBack x)) (made .contents)
             ∙ ap length (more-back (contents narrow s) g)
             ∙ length-append (backToBack (contents narrow s)) a

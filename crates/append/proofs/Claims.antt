@@ -21,7 +21,7 @@ list : (f : Form) → Sized f → ListClaims f
 list f sized = record { appendRefusal = λ g s z. append-is f s z g; append = append-out f sized }
 
 leaves : (f : Form) → Sized f → AppendClaims f
-leaves f sized = record { append = appended f sized; appends = λ gs s r. appends f sized }
+leaves f sized = record { append = appended f sized; appends = appends f sized }
 
 pub claims : Claims
 claims =

@@ -1,13 +1,12 @@
 -- An append as one to the list, and what it leaves.
 use Prim.Native.Nat.{ℕ, suc, _+_, _<_}
-use mathlib.Core.Bool.{true}
 use mathlib.Core.List.{List, [], _∷_, _++_, append-assoc, append-nil}
 use mathlib.Core.Path.{_≡_, sym, ap, _∙_}
 use native.Mathlib.Omega.{arith}
 use native.Mathlib.Nat.{zero-add}
 use native.Mathlib.Decide.{decLt}
 use lib.ListN.{length, getD, drop, length-append}
-use borrow.Author.Tests.{lt-ltb}
+use lib.Seq.{getD-append-add}
 use Rattle.octets.specs.Buffer.{front}
 use Rattle.octets.specs.BigEndian.{bytesOf}
 use Rattle.octets.proofs.PartLaws.{bytes-part, bytes-drop}
@@ -16,16 +15,16 @@ use Rattle.store.specs.Layout.{Form, Sized, entrySize, answers, streamLength, s
 use Rattle.store.specs.Check.{storeNumber}
 use Rattle.store.specs.Read.{lookupNumber, lookupPart, streamPart}
 use Rattle.store.specs.Contents.{Stored, nameFor, nothing, backToBack, entryBytes, entriesFrom, storeOf, contents}
-use Rattle.store.specs.Contents.{placeOf, isAmong, answerNamed, Given, Listed, Holdable, OfForm}
+use Rattle.store.specs.Contents.{answerNamed, Given, Listed, Holdable, OfForm}
 use Rattle.store.proofs.PositionLaws.{position-missing}
 use Rattle.store.proofs.FormLaws.{entries-suc}
-use Rattle.store.proofs.WrittenLaws.{entries-append, store-long}
+use Rattle.store.proofs.WrittenLaws.{back-append, entries-append, store-long}
 use Rattle.store.proofs.ContentsLaws.{contents-length, contents-at, contents-reads, contents-holdable, stored-name}
-use Rattle.store.proofs.ListLaws.{place-of, more-length, more-back, more-old, more-new, others-among, others-answer}
+use Rattle.store.proofs.ListLaws.{is-among, answer-of, more-length, more-back, more-old, more-new, others-among, others-answer}
 use Rattle.store.proofs.OwnBytes.{entries-are}
 use Rattle.store.proofs.Theorems.{written-unbroken, written-contents, written-form, held-is, lookup-is, lookup-bytes, stream-is}
 use Rattle.append.specs.Append.{roomNumber, appendNumber, withAnswer, appendOut, appendNumberTo}
-use Rattle.append.specs.Claims.{Appended, Appends, none, more, ReadsBack}
+use Rattle.append.specs.Claims.{Found, Appended, Appends, none, more, ReadsBack}
 use Rattle.append.proofs.AppendLaws.{Accepted, accepted}
 
 -- The list with an answer more
@@ -73,6 +72,16 @@ module _ (f : Form) (s : List ℕ) (z : storeNumber f s ≡ 0) where
       let t : length (backToBack (held ++ (g ∷ []))) ≡ streamLength f s + length (g .answer) =
       ap length (more-back held g) ∙ length-append (backToBack held) (g .answer) ∙ omega (arith, reads .total) in
       rw (z, held-is f s z (nameFor g), more-length held g, contents-length f s, t, more-long g)
+
+-- the i-th answer of an unbroken store is found under its name
+pub found-at : (f : Form) (s : List ℕ) → storeNumber f s ≡ 0 → (gs : List Stored) → contents f s ≡ gs → Holdable f gs
+    → (i : ℕ) → i < length gs → Found f (getD gs i nothing) s
+found-at f s z gs e fit i h =
+    let name : AnswerName = nameFor (getD gs i nothing) in
+    record {
+      number = lookup-is f s z name ∙ rw (e, is-among f gs fit i h);
+      part = lookup-bytes f s z name ∙ ap (answerNamed name) e ∙ answer-of f gs fit i h;
+    }
 
 -- An accepted append
 
@@ -143,20 +152,9 @@ module _ (f : Form) (sized : Sized f) (g : Stored) (s : List ℕ) (formed : OfFo
   append-form =
       rw is (written-form f new rest (rw (← formed .marked) (bytes-part 0 (length (f .mark)) s (formed .bytes))) (bytes-drop (length (storeOf f new)) s (formed .bytes)) new-fit)
 
-  place-new : placeOf (nameFor g) new ≡ length old
-  place-new = rw (more-new old g) at (place-of f new new-fit (length old) (omega (arith, more-length old g)))
-
-  pub append-number : lookupNumber f (nameFor g) after ≡ 0
-  append-number =
-      let t : isAmong (nameFor g) new ≡ true = rw place-new (lt-ltb (length old) (length new) (omega (arith, more-length old g))) in
-      lookup-is f after append-unbroken (nameFor g) ∙ rw (append-contents, t)
-
-  pub append-part : lookupPart f (nameFor g) after ≡ g .answer
-  append-part =
-      lookup-bytes f after append-unbroken (nameFor g)
-      ∙ ap (answerNamed (nameFor g)) append-contents
-      ∙ ap (λ (k : ℕ). getD new k nothing .answer) place-new
-      ∙ ap (λ (x : Stored). x .answer) (more-new old g)
+  pub append-found : Found f g after
+  append-found =
+      rw (more-new old g) at (found-at f after append-unbroken new append-contents new-fit (length old) (omega (arith, more-length old g)))
 
   module _ (name : AnswerName) (other : name ≡ nameFor g → ⊥) where
     pub others-number : lookupNumber f name after ≡ lookupNumber f name s
@@ -184,21 +182,42 @@ module _ (f : Form) (sized : Sized f) (g : Stored) (s : List ℕ) (formed : OfFo
         unbroken = append-unbroken;
         ofForm = append-form;
         contents = append-contents;
-        number = append-number;
-        part = append-part;
+        found = append-found;
         othersNumber = others-number;
         othersPart = others-part;
         stream = append-stream;
       }
 
--- any list of them
-pub appends : (f : Form) → Sized f → {gs : List Stored} {s r : List ℕ} → OfForm f s → storeNumber f s ≡ 0 → Appends f gs s r → ReadsBack f gs s r
-appends f sized {gs} {s} formed z none = record { unbroken = z; ofForm = formed; contents = sym (append-nil (contents f s)) }
-appends f sized formed z (more {g} {gs} {s} {r} taken given rest) =
+-- Any list of them
+
+-- the answers that were there, and these behind them
+record Left (f : Form) (gs : List Stored) (s r : List ℕ) : Type 0 where
+  unbroken : storeNumber f r ≡ 0
+  ofForm : OfForm f r
+  contents : contents f r ≡ contents f s ++ gs
+
+left : (f : Form) → Sized f → {gs : List Stored} {s r : List ℕ} → OfForm f s → storeNumber f s ≡ 0 → Appends f gs s r → Left f gs s r
+left f sized {gs} {s} formed z none = record { unbroken = z; ofForm = formed; contents = sym (append-nil (contents f s)) }
+left f sized formed z (more {g} {gs} {s} {r} taken given rest) =
     let first = appended f sized g s formed given taken in
-    let later = appends f sized (first .ofForm) (first .unbroken) rest in
+    let later = left f sized (first .ofForm) (first .unbroken) rest in
     record {
       unbroken = later .unbroken;
       ofForm = later .ofForm;
       contents = later .contents ∙ rw (first .contents) (append-assoc (contents f s) (g ∷ []) gs);
+    }
+
+pub appends : (f : Form) → Sized f → (gs : List Stored) (s r : List ℕ) → OfForm f s → storeNumber f s ≡ 0 → Appends f gs s r → ReadsBack f gs s r
+appends f sized gs s r formed z all =
+    let old : List Stored = contents f s in
+    let l : Left f gs s r = left f sized formed z all in
+    let fit : Holdable f (old ++ gs) = rw (l .contents) at (contents-holdable f r (l .unbroken) (l .ofForm .bytes)) in
+    record {
+      unbroken = l .unbroken;
+      ofForm = l .ofForm;
+      contents = l .contents;
+      lookups = λ i h.
+          rw (getD-append-add old gs i nothing) at (found-at f r (l .unbroken) (old ++ gs) (l .contents) fit (length old + i) (omega (arith, length-append old gs)));
+      stream = stream-is f r (l .unbroken) ∙ ap backToBack (l .contents) ∙ back-append old gs
+          ∙ ap (λ (x : List ℕ). x ++ backToBack gs) (sym (stream-is f s z));
     }

@@ -53,12 +53,12 @@ module _ (f : Form) where
   unfoldable pub appendOut : List ℕ → ℕ → List ℕ → List ℕ
   appendOut answer day s = changedBy (appendNumber answer day s) (front (withAnswer answer day s) s) s
 
--- "Appending: 5, 12, 7, 8, 4", behind 5; room is the buffer's length
+-- "Appending: 5, 12, 7, 8, 4", behind 5; bufferLen is the buffer's length
 unfoldable pub appendNumberTo : Form → Stored → ℕ → List Stored → ℕ
-appendNumberTo f g room gs =
+appendNumberTo f g bufferLen gs =
     orElse (answerNumber (g .answer) (g .day))
     (unless (not (isAmong (nameFor g) gs)) alreadyHeld
     (unless (leb (length (gs ++ (g ∷ []))) (f .answersMost)) overBound
     (unless (leb (length (backToBack (gs ++ (g ∷ [])))) (f .streamMost)) overBound
-    (unless (leb (length (storeOf f (gs ++ (g ∷ [])))) room) bufferShort
+    (unless (leb (length (storeOf f (gs ++ (g ∷ [])))) bufferLen) bufferShort
     done))))

@@ -1,13 +1,11 @@
 -- What is claimed of appending (document 01, Bench store; House numbers): each number "Given exactly when" its rule
--- says, the
--- append as one of the list, what it leaves, and what any list of appends leaves. For every form whose bounds fit its
--- fields;
--- proofs/Claims.antt proves it.
+-- says, the append as one of the list, what it leaves, and what any list of appends leaves. For every form whose bounds
+-- fit its fields; proofs/Claims.antt proves it.
 use Prim.Native.Nat.{ℕ, _+_, _<_, _≤_}
 use mathlib.Core.List.{List, [], _∷_, _++_}
 use mathlib.Core.Logic.{_↔_, _⊎_, _≢_}
 use mathlib.Core.Path.{_≡_}
-use lib.ListN.{length}
+use lib.ListN.{length, getD}
 use Rattle.octets.specs.Numbers.{done, bufferShort, storeBroken, alreadyHeld, overBound, notInTable}
 use Rattle.octets.specs.Buffer.{front}
 use Rattle.catalog.specs.Name.{nameNumber}
@@ -16,7 +14,7 @@ use Rattle.store.specs.Layout.{Form, Sized, narrow, entrySize, answers, streamL
 use Rattle.store.specs.Check.{storeNumber}
 use Rattle.store.specs.Read.{lookupNumber, lookupPart, streamPart}
 use Rattle.store.specs.Answer.{nameOf, answerNumber}
-use Rattle.store.specs.Contents.{Stored, nameFor, storeOf, contents, Given, OfForm}
+use Rattle.store.specs.Contents.{Stored, nameFor, nothing, backToBack, storeOf, contents, Given, OfForm}
 use Rattle.store.specs.Claims.{Broken, Unlisted, HeldAs, Missing}
 use Rattle.append.specs.Append.{appendNumber, appendOut, appendNumberTo}
 
@@ -68,8 +66,7 @@ module _ (f : Form) where
 module _ (f : Form) where
   pub record ListClaims : Type 0 where
     -- an append to an unbroken store is one to the list, "Appending puts the answer last": the store of the list with
-    -- the
-    -- answer behind it, in the front of the buffer
+    -- the answer behind it, in the front of the buffer
     pub appendRefusal : (g : Stored) (s : List ℕ) → storeNumber f s ≡ done
         → appendNumber f (g .answer) (g .day) s ≡ appendNumberTo f g (length s) (contents f s)
     pub append : (g : Stored) (s : List ℕ) → OfForm f s → appendNumber f (g .answer) (g .day) s ≡ done
@@ -78,14 +75,17 @@ module _ (f : Form) where
 -- What it leaves
 
 module _ (f : Form) where
+  -- a lookup of its name gives exactly that answer
+  pub record Found (g : Stored) (s : List ℕ) : Type 0 where
+    pub number : lookupNumber f (nameFor g) s ≡ done
+    pub part : lookupPart f (nameFor g) s ≡ g .answer
+
   -- what an accepted append of an answer makes of the store s
   pub record Appended (g : Stored) (s after : List ℕ) : Type 0 where
     pub unbroken : storeNumber f after ≡ done
     pub ofForm : OfForm f after
     pub contents : contents f after ≡ contents f s ++ (g ∷ [])
-    -- a lookup of its name gives exactly that answer
-    pub number : lookupNumber f (nameFor g) after ≡ done
-    pub part : lookupPart f (nameFor g) after ≡ g .answer
+    pub found : Found g after
     -- every other lookup is as before
     pub othersNumber : (name : AnswerName) → name ≢ nameFor g → lookupNumber f name after ≡ lookupNumber f name s
     pub othersPart : (name : AnswerName) → name ≢ nameFor g → lookupPart f name after ≡ lookupPart f name s
@@ -104,6 +104,9 @@ module _ (f : Form) where
     pub unbroken : storeNumber f r ≡ done
     pub ofForm : OfForm f r
     pub contents : contents f r ≡ contents f s ++ gs
+    -- each of their names looks up to exactly its answer
+    pub lookups : (i : ℕ) → i < length gs → Found (getD gs i nothing) r
+    pub stream : streamPart f r ≡ streamPart f s ++ backToBack gs
 
   pub record AppendClaims : Type 0 where
     pub append : (g : Stored) (s : List ℕ) → OfForm f s → Given g → appendNumber f (g .answer) (g .day) s ≡ done
@@ -116,6 +119,7 @@ module _ (f : Form) where
 -- an answer that is taken and fills the stream
 pub record Fills (answer : List ℕ) (day : ℕ) (s : List ℕ) : Type 0 where
   pub taken : appendNumber narrow answer day s ≡ done
+  pub unbroken : storeNumber narrow (appendOut narrow answer day s) ≡ done
   pub stream : streamLength narrow (appendOut narrow answer day s) ≡ 60000
 
 pub record NarrowClaims : Type 0 where

@@ -73,7 +73,8 @@ arrivalMeaning a roomLen t b =
 unfoldable pub arrivalBytes : Addresses → ToolState → List ℕ → List ℕ
 arrivalBytes a t b = newBytes t (receivedBy t (dataOf a ends.Tool b)) (dataOf a ends.Tool b)
 
--- all that a call needs of it: where its data lies, what that is of the answer, how many bytes it adds, what it means
+-- all that a call needs of it: where its data lies, what that is of the answer, how many bytes it adds to those held
+-- where it is taken, what it means
 unfoldable pub arrivalOf : Addresses → ℕ → ToolState → List ℕ → Arrival
 arrivalOf a roomLen t b =
     record {

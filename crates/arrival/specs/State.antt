@@ -4,6 +4,7 @@ use mathlib.Core.Bool.{Bool, true, false, cond, not, _&&_, _||_}
 use lib.Dec.{eqb, leb}
 use Rattle.catalog.specs.Name.{nameNumber}
 use Rattle.catalog.specs.declared.AnswerName.{AnswerName}
+use Rattle.split.specs.Split.{pieceSize}
 use Rattle.split.specs.Codes.{sub}
 use Rattle.arrival.specs.declared.Request.{Request}
 use Rattle.arrival.specs.declared.Request.the-variants as requests
@@ -41,7 +42,7 @@ isWaiting (Refused code) = false
 
 -- "with number e expected, held 0 for e = 1 and 2 + 251(e-1) otherwise"; number 0 is never expected
 unfoldable pub heldRight : ℕ → ℕ → Bool
-heldRight e held = cond (eqb e 1) (eqb held 0) (leb 2 e && eqb held (2 + 251 * (e - 1)))
+heldRight e held = cond (eqb e 1) (eqb held 0) (leb 2 e && eqb held (2 + pieceSize * (e - 1)))
 
 -- "for a transfer, a TREP and day that 12 allows and .. held .., within room and 60,000"
 unfoldable pub transferPossible : ℕ → ToolState → Bool

@@ -177,6 +177,7 @@ module _ (a : Addresses) (g : Premises) where
       let d : r .system .tool .state .outcome ≡ Done → o ≡ books.done = λ z. done-both o .0 (sym (t .outcome) ∙ z) in
       record {
         outcome = t .outcome;
+        neverHeldOff = lineTheorem.never-held-off refl w;
         heldLength = t .room .heldLength;
         held = t .room .held;
         behind = t .room .behind;

@@ -1,11 +1,11 @@
 -- The two cable ends, for the line (document 01, "The line and the book"), over any two addresses that both are given.
--- Each is put together from the definitions that the
--- calls promise, so that what is claimed of the ends is claimed of the calls:
---   call               its promise: result, output and room at exit             here
---   unit::step         unitResult, unitOut                                       unitCall
---   tool::begin        beginResult, beginOut                                     toolBegun
---   tool::arrived      arrivalResult, arrivalOut, arrivalRoom                    toolArrival
---   tool::wait_ended   waitResult, waitOut                                       toolWaitEnd
+-- Each is put together from the definitions that the calls promise, so that what is claimed of the ends is claimed of
+-- the calls:
+--   call                     its promise: result, output and room at exit       here
+--   unit::call::step         unitResult, unitOut                                 unitCall
+--   tool::call::begin        beginResult, beginOut                               toolBegun
+--   tool::call::arrived      arrivalResult, arrivalOut, arrivalRoom              toolArrival
+--   tool::call::wait_ended   waitResult, waitOut                                 toolWaitEnd
 -- The public calls are at the lab's addresses. The front `len` bytes of an output at exit are the string that is put
 -- out here (proofs/Calls.antt).
 use mathlib.Core.Bool.{Bool, cond, not}

@@ -1,9 +1,8 @@
 -- DEMAND 3 (document 01, "The line and the book"): one claim about every list of events, over any two addresses that
--- both ends are given at every call; they need
--- not differ. The chain: a call → its promise → a definition (specs/ of unit and tool) → an end of the cable
--- (CableEnds.antt) → line, events and book (specs/ of line)
--- → the claim here. proofs/Theorem.antt proves it; proofs/Witness.antt meets its premises; proofs/Needed.antt shows
--- what breaks without each.
+-- both ends are given at every call; they need not differ. The chain: a call → its promise → a definition (specs/ of
+-- unit and tool) → an end of the cable (CableEnds.antt) → line, events and book (specs/ of line) → the claim here.
+-- proofs/Theorem.antt proves it; proofs/Witness.antt meets its premises; proofs/Needed.antt shows what breaks without
+-- each.
 use mathlib.Core.Path.{_≡_}
 use mathlib.Core.Bool.{true, false}
 use mathlib.Core.List.{List, [], _∷_, _++_}
@@ -11,6 +10,7 @@ use mathlib.Core.Logic.{_↔_}
 use Prim.Native.Nat.{ℕ, zero, suc, _+_, _*_, _≤_, _<_}
 use lib.ListN.{length, take, drop}
 use lib.Dec.{leb}
+use Rattle.frame.specs.Frame.{frameMost}
 use Rattle.frame.specs.declared.Addresses.{Addresses}
 use Rattle.octets.specs.Buffer.{sameBytes}
 use Rattle.catalog.specs.declared.AnswerName.{AnswerName}
@@ -25,7 +25,7 @@ use Rattle.services.specs.State.{isGranted}
 use Rattle.unit.specs.State as unitStates
 use Rattle.arrival.specs.declared.Request.the-variants as requests
 use Rattle.arrival.specs.declared.Outcome.{Outcome}
-use Rattle.arrival.specs.declared.Outcome.the-variants.{Fresh, Waiting, Done, NoAnswer}
+use Rattle.arrival.specs.declared.Outcome.the-variants.{Waiting, Done, NoAnswer}
 use Rattle.arrival.specs.declared.ToolState.{ToolState}
 use Rattle.tool.specs.Call.{beginNumber}
 use Rattle.line.specs.Line.{Event}
@@ -93,17 +93,16 @@ module _ (given : Premises) where
   heldWith zero = []
   heldWith (suc p) = 0x76 ∷ given .name .trep ∷ dataUpTo (suc p)
 
--- "held off" never comes, since no unit asks for time
+-- "Held off" never comes, since no unit asks for time
 abbrev pub outcomeOf : books.Outcome → Outcome
 outcomeOf books.waiting = Waiting
 outcomeOf books.done = Done
 outcomeOf books.noAnswer = NoAnswer
-outcomeOf books.heldOff = Fresh
+outcomeOf books.heldOff = NoAnswer
 
 module _ (a : Addresses) (given : Premises) where
   -- "the answer's frames 1 to q, split as above"; no unit asks for time. An event's output has 260 bytes or more; a
-  -- reply
-  -- buffer has any length, on a clean line 260 or more.
+  -- reply buffer has any length, on a clean line 260 or more.
   abbrev pub transfer : books.Transfer (cableEnds a)
   transfer =
       record {
@@ -115,8 +114,8 @@ module _ (a : Addresses) (given : Premises) where
         timeMost = 0;
         owed = 0;
         unitPremise = CallPremise given;
-        toolPremise = λ output. 260 ≤ output;
-        hasRoom = λ c. leb 260 (c .reply);
+        toolPremise = λ output. frameMost ≤ output;
+        hasRoom = λ c. leb frameMost (c .reply);
         unit = given .unit;
         begun = toolBegun a
             (record { request = requests.Transfer; name = given .name; output = given .output })
@@ -135,8 +134,9 @@ module _ (a : Addresses) (given : Premises) where
 
   -- After every list of allowed events
   pub record Agrees (r : Run (cableEnds a)) : Type 0 where
-    -- "After every list the tool waits or has ended as the book has"
+    -- "After every list the tool waits or has ended as the book has": by done or by no answer
     pub outcome : tool r .outcome ≡ outcomeOf (r .book .outcome)
+    pub neverHeldOff : r .book .outcome ≡ books.heldOff → ⊥
     -- "it holds 76, TREP and the data of frames 1 to p, at p = 0 nothing"; behind these bytes the room is as it was
     -- lent
     pub heldLength : tool r .held ≡ length (heldWith given (r .book .taken))
@@ -152,14 +152,11 @@ module _ (a : Addresses) (given : Premises) where
     -- it "has put out at most 3q frames", its begin's too
     pub putOutAtMost : r .system .putOut ≤ 3 * transfer .q
     -- "the count equals the frames put out since the last step forward". Done, the state keeps the count of its last
-    -- wait ("An
-    -- ended state keeps all as at its last wait but outcome and held length"): the frames put out since the step
-    -- forward with
-    -- which that wait began
+    -- wait ("An ended state keeps all as at its last wait but outcome and held length"): the frames put out since the
+    -- step forward with which that wait began
     pub sendings : r .putOutBefore + tool r .sendings ≡ r .system .putOut
-    -- the unit keeps its kind and rate, it is granted or sends this answer or the one before, and it is possible with
-    -- the
-    -- store of the begin: the next transfer can begin
+    -- the unit keeps its kind and rate, it is granted or sending, and it is possible with the store of the begin: the
+    -- next transfer can begin
     pub unitKind : unit r .kind ≡ given .unit .kind
     pub unitRate : unit r .rate ≡ given .unit .rate
     pub unitGranted : isGranted (unit r .phase) ≡ true

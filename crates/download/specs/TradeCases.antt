@@ -1,12 +1,11 @@
 -- Document 01, Trade cases: the table W1 to W12 as one statement over the rules themselves, at the lab's addresses.
--- Where a row says nothing of store, kind, rate or
--- name, it is for all of them.
+-- Where a row says nothing of store, kind, rate or name, it is for all of them.
 use mathlib.Core.Path.{_≡_}
 use mathlib.Core.Bool.{true}
 use mathlib.Core.List.{List, [], _∷_, map}
 use Prim.Native.Nat.{ℕ, _<_, _≤_}
 use lib.ListN.{length, getD, drop, replicate}
-use Rattle.frame.specs.Frame.{lab, frameOf}
+use Rattle.frame.specs.Frame.{frameMost, lab, frameOf}
 use Rattle.frame.specs.declared.End.the-variants as ends
 use Rattle.catalog.specs.declared.AnswerName.{AnswerName}
 use Rattle.catalog.specs.Name.{dayNamed}
@@ -27,10 +26,10 @@ use Rattle.arrival.specs.declared.Request.the-variants as requests
 use Rattle.tool.specs.Sent.{transferRequest, acknowledgement, frameSent}
 
 -- a unit's call that neither 5 nor 11 nor 4 refuses
-pub record Called (store : List ℕ) (u : UnitState) (room : ℕ) : Type 0 where
+pub record Called (store : List ℕ) (u : UnitState) (outLen : ℕ) : Type 0 where
   pub unbroken : storeNumber narrow store ≡ 0
   pub possible : unitStates.possible store u ≡ true
-  pub roomy : 260 ≤ room
+  pub roomy : frameMost ≤ outLen
 
 -- a request for an answer of the unit's column, with a day that may be named
 pub record Asked (u : UnitState) (name : AnswerName) : Type 0 where
@@ -48,32 +47,32 @@ store12 =
 
 pub record TradeCases : Type 0 where
   -- W1: 80 EE F0 02 10 81 F1, started
-  pub w1 : (store : List ℕ) (u : UnitState) (room : ℕ) → Called store u room → u .phase ≡ Started
-      → unitReply lab store room u (0x80 ∷ 0xEE ∷ 0xF0 ∷ 0x02 ∷ 0x10 ∷ 0x81 ∷ 0xF1 ∷ [])
+  pub w1 : (store : List ℕ) (u : UnitState) (outLen : ℕ) → Called store u outLen → u .phase ≡ Started
+      → unitReply lab store outLen u (0x80 ∷ 0xEE ∷ 0xF0 ∷ 0x02 ∷ 0x10 ∷ 0x81 ∷ 0xF1 ∷ [])
       ≡ 0x80 ∷ 0xF0 ∷ 0xEE ∷ 0x02 ∷ 0x50 ∷ 0x81 ∷ 0x31 ∷ []
   -- W2: 80 EE F0 0A 35 00 00 00 00 00 FF FF FF FF 99, session
-  pub w2 : (store : List ℕ) (u : UnitState) (room : ℕ) → Called store u room → u .phase ≡ Session
-      → unitReply lab store room u
+  pub w2 : (store : List ℕ) (u : UnitState) (outLen : ℕ) → Called store u outLen → u .phase ≡ Session
+      → unitReply lab store outLen u
       (0x80 ∷ 0xEE ∷ 0xF0 ∷ 0x0A ∷ 0x35 ∷ 0x00 ∷ 0x00 ∷ 0x00 ∷ 0x00 ∷ 0x00 ∷ 0xFF ∷ 0xFF ∷ 0xFF ∷ 0xFF ∷ 0x99 ∷ [])
       ≡ 0x80 ∷ 0xF0 ∷ 0xEE ∷ 0x03 ∷ 0x75 ∷ 0x00 ∷ 0xFF ∷ 0xD5 ∷ []
   -- W3: 80 EE F0 02 36 00 96, v2, granted, store W12
-  pub w3 : (u : UnitState) (room : ℕ) → Called store12 u room → u .kind ≡ 2 → u .phase ≡ Granted
-      → unitReply lab store12 room u (0x80 ∷ 0xEE ∷ 0xF0 ∷ 0x02 ∷ 0x36 ∷ 0x00 ∷ 0x96 ∷ [])
+  pub w3 : (u : UnitState) (outLen : ℕ) → Called store12 u outLen → u .kind ≡ 2 → u .phase ≡ Granted
+      → unitReply lab store12 outLen u (0x80 ∷ 0xEE ∷ 0xF0 ∷ 0x02 ∷ 0x36 ∷ 0x00 ∷ 0x96 ∷ [])
       ≡ 0x80 ∷ 0xF0 ∷ 0xEE ∷ 0x04 ∷ 0x76 ∷ 0x00 ∷ 0x02 ∷ 0x02 ∷ 0xDC ∷ []
   -- W4: transfer of an answer not held, granted or sending
-  pub w4 : (store : List ℕ) (u : UnitState) (room : ℕ) (name : AnswerName) → Called store u room → Asked u name
+  pub w4 : (store : List ℕ) (u : UnitState) (outLen : ℕ) (name : AnswerName) → Called store u outLen → Asked u name
       → isGranted (u .phase) ≡ true → lookupNumber narrow name store ≡ 6
-      → unitReply lab store room u (frameOf lab ends.Unit (transferRequest name))
+      → unitReply lab store outLen u (frameOf lab ends.Unit (transferRequest name))
       ≡ 0x80 ∷ 0xF0 ∷ 0xEE ∷ 0x03 ∷ 0x7F ∷ 0x36 ∷ 0xFA ∷ 0x10 ∷ []
   -- W5: transfer in session, held or not
-  pub w5 : (store : List ℕ) (u : UnitState) (room : ℕ) (name : AnswerName) → Called store u room → Asked u name
+  pub w5 : (store : List ℕ) (u : UnitState) (outLen : ℕ) (name : AnswerName) → Called store u outLen → Asked u name
       → u .phase ≡ Session
-      → unitReply lab store room u (frameOf lab ends.Unit (transferRequest name))
+      → unitReply lab store outLen u (frameOf lab ends.Unit (transferRequest name))
       ≡ 0x80 ∷ 0xF0 ∷ 0xEE ∷ 0x03 ∷ 0x7F ∷ 0x36 ∷ 0x22 ∷ 0x38 ∷ []
   -- W6: acknowledgement past the last
-  pub w6 : (store : List ℕ) (u : UnitState) (room : ℕ) (name : AnswerName) (last : ℕ) → Called store u room
+  pub w6 : (store : List ℕ) (u : UnitState) (outLen : ℕ) (name : AnswerName) (last : ℕ) → Called store u outLen
       → u .phase ≡ Sending name (sub last) → last ≡ countOf (length (drop 2 (lookupPart narrow name store)))
-      → unitReply lab store room u (frameOf lab ends.Unit (acknowledgement (acknowledgeOf (sub last))))
+      → unitReply lab store outLen u (frameOf lab ends.Unit (acknowledgement (acknowledgeOf (sub last))))
       ≡ 0x80 ∷ 0xF0 ∷ 0xEE ∷ 0x03 ∷ 0x7F ∷ 0x83 ∷ 0x12 ∷ 0x75 ∷ []
   -- W7 to W10: 252, 253, 501, 502 data bytes
   pub w7 : (trep : ℕ) (d : List ℕ) → length d ≡ 252 → lens trep d ≡ 0xFE ∷ []

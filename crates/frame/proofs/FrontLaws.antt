@@ -1,14 +1,14 @@
 -- The length of the frame at the front, from the tests of the code, and of every good frame.
-use Prim.Native.Nat.{ℕ, _+_, _<_, _≤_}
+use Prim.Native.Nat.{ℕ, zero, suc, _+_, _<_, _≤_}
 use mathlib.Core.Bool.{Bool, true, false, _||_}
-use mathlib.Core.List.{List, _++_}
+use mathlib.Core.List.{List, [], _++_, append-nil}
 use mathlib.Core.Logic.{_⊎_, inl, inr, ⊎-elim}
 use mathlib.Core.Path.{_≡_, refl, sym, _∙_}
 use native.Mathlib.Omega.{arith}
 use native.Mathlib.Decide.{decLt}
 use lib.Dec.{eqb}
 use lib.ListN.{length, getD, take, length-append, List·getD-append}
-use lib.Seq.{length-take-le, getD-take}
+use lib.Seq.{length-take-le, getD-take, take-all}
 use borrow.Author.Tests.{le-leb, lt-leb, eq-eqb, ne-eqb, eqb-true}
 use Rattle.octets.proofs.Tests.{never}
 use Rattle.frame.specs.declared.End.{End}
@@ -77,8 +77,8 @@ module _ (a : Addresses) (end : End) (f : List ℕ) (right : judged a end f ≡ 
       first-byte
 
   -- of its first n bytes it is told, or not told yet
-  pub front-part : (n : ℕ) → 0 < n → n ≤ length f → (frameLength (take n f) ≡ 0) ⊎ (frameLength (take n f) ≡ length f)
-  front-part n some h =
+  front-some : (n : ℕ) → 0 < n → n ≤ length f → (frameLength (take n f) ≡ 0) ⊎ (frameLength (take n f) ≡ length f)
+  front-some n some h =
       let k : length (take n f) ≡ n = length-take-le n f h in
       let first : getD (take n f) 0 0 ≡ getD f 0 0 = getD-take n f 0 0 some in
       ⊎-elim
@@ -89,3 +89,11 @@ module _ (a : Addresses) (end : End) (f : List ℕ) (right : judged a end f ≡ 
         | no l ↦ inr (told-len a end f right (take n f) first (λ z. omega arith) e (omega arith) (getD-take n f 3 0 (omega arith)))
       ])
       first-byte
+
+  pub front-part : (n : ℕ) → (frameLength (take n f) ≡ 0) ⊎ (frameLength (take n f) ≡ length f)
+  front-part zero = inl (sym (front-none [] refl))
+  front-part (suc n) =
+      elim (decLt (length f) (suc n)) as (λ _. (frameLength (take (suc n) f) ≡ 0) ⊎ (frameLength (take (suc n) f) ≡ length f)) [
+        | yes l ↦ inr (rw (take-all (suc n) f (omega arith)) (rw (append-nil f) at (front-whole [])))
+        | no l ↦ front-some (suc n) (omega arith) (omega arith)
+      ]

@@ -1,7 +1,7 @@
 -- Writing a frame: its number, and header, data and checksum one behind the other.
 use Prim.Native.Nat.{ℕ, _+_, _<_, _≤_}
 use mathlib.Core.List.{List, [], _∷_, _++_}
-use mathlib.Core.Path.{_≡_, refl, ap, _∙_}
+use mathlib.Core.Path.{_≡_, refl, sym, ap, _∙_}
 use native.Mathlib.Omega.{arith}
 use lib.ListN.{length, take, set, length-append}
 use borrow.Author.Tests.{lt-ltb, le-ltb, le-leb, lt-leb}
@@ -11,7 +11,7 @@ use Rattle.octets.specs.Buffer.{front, put, copied}
 use Rattle.octets.specs.declared.Written.{Written}
 use Rattle.octets.proofs.BufferLaws.{stores-front, stores-put, put-front, take-front, copied-fits}
 use Rattle.octets.proofs.CallLaws.{kept, changed}
-use Rattle.frame.specs.Frame.{lab, target, source, closed, frameOf, writeNumber}
+use Rattle.frame.specs.Frame.{frameMost, lab, target, source, closed, frameOf, writeNumber, writeResult, writeOut}
 use Rattle.frame.specs.Messages.{startResult, startOut}
 use Rattle.frame.specs.declared.End.{End}
 use Rattle.frame.specs.declared.Addresses.{Addresses}
@@ -56,6 +56,19 @@ module _ (p r : List ℕ) (room : ℕ) where
   pub length-good : (length p + length r ≡ 0 → ⊥) → length p + length r ≤ 255 → length p + length r + 5 ≤ room
       → length p + length r + 5 ≡ changedBy (writeNumber (length (p ++ r)) room) (length (p ++ r) + 5) 0
   length-good z l h = changed _ _ (length (p ++ r) + 5) 0 (number-good z l h) (rw two)
+
+-- A frame written into 260 bytes or more
+module _ (a : Addresses) (end : End) (d o : List ℕ) (some : 0 < length d) (most : length d ≤ 255) (room : frameMost ≤ length o) where
+  fits : writeNumber (length d) (length o) ≡ 0
+  fits = sym (number-good [] d (length o) (omega arith) (omega arith) (omega arith))
+
+  pub written-length : (w : Written) → w ≡ writeResult d (length o) → w .len ≡ length (frameOf a end d)
+  unfolding writeResult
+  written-length w e = rw (e, fits) (sym (length-frame a end d))
+
+  pub written-out : (o′ : List ℕ) → o′ ≡ writeOut a end d o → o′ ≡ front (frameOf a end d) o
+  unfolding writeOut
+  written-out o′ e = rw fits at e
 
 -- four stores at the front are the header
 pub header-is : (o : List ℕ) (a b c d : ℕ) → 4 ≤ length o → set (set (set (set o 0 a) 1 b) 2 c) 3 d ≡ front (a ∷ b ∷ c ∷ d ∷ []) o

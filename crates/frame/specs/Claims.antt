@@ -35,5 +35,4 @@ pub record FrameClaims : Type 0 where
   pub frontWhole : (a : Addresses) (end : End) (f : List ℕ) → judged a end f ≡ 0
       → (rest : List ℕ) → frameLength (f ++ rest) ≡ length f
   pub frontPart : (a : Addresses) (end : End) (f : List ℕ) → judged a end f ≡ 0
-      → (n : ℕ) → 0 < n → n ≤ length f
-      → (frameLength (take n f) ≡ 0) ⊎ (frameLength (take n f) ≡ length f)
+      → (n : ℕ) → (frameLength (take n f) ≡ 0) ⊎ (frameLength (take n f) ≡ length f)

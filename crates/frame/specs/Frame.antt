@@ -28,6 +28,10 @@ abbrev pub source : Addresses → End → ℕ
 source a ends.Unit = a .tool
 source a ends.Tool = a .unit
 
+-- "a frame has 6 to 260 bytes"
+abbrev pub frameMost : ℕ
+frameMost = 260
+
 -- Writing
 
 -- "CS is the sum of all bytes before it, modulo 256"
@@ -38,15 +42,15 @@ closed body = body ++ (checksumOf body ∷ [])
 unfoldable pub frameOf : Addresses → End → List ℕ → List ℕ
 frameOf a end d = closed (0x80 ∷ target a end ∷ source a end ∷ length d ∷ d)
 
--- "Writing a frame: 1 (data empty or over 255 bytes), 4 (shorter than the frame)"; n data bytes, a buffer of room bytes
+-- "Writing a frame: 1 (data empty or over 255 bytes), 4 (shorter than the frame)"; n data bytes, a buffer of outLen
 unfoldable pub writeNumber : ℕ → ℕ → ℕ
-writeNumber n room =
+writeNumber n outLen =
     unless (ltb 0 n && leb n 255) frameCount
-    (unless (leb (n + 5) room) bufferShort
+    (unless (leb (n + 5) outLen) bufferShort
     done)
 
 unfoldable pub writeResult : List ℕ → ℕ → Written
-writeResult d room = writtenBy (writeNumber (length d) room) (length d + 5)
+writeResult d outLen = writtenBy (writeNumber (length d) outLen) (length d + 5)
 
 unfoldable pub writeOut : Addresses → End → List ℕ → List ℕ → List ℕ
 writeOut a end d out = changedBy (writeNumber (length d) (length out)) (front (frameOf a end d) out) out

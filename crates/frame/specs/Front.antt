@@ -8,8 +8,7 @@ use lib.ListN.{length, getD}
 use lib.Dec.{eqb, leb}
 
 -- The length of the frame at the front of the bytes received so far: 0 while more are needed to tell. A first byte
--- other
--- than 80 and 81 begins no frame (house): it is a string of its own, of length 1.
+-- other than 80 and 81 begins no frame (house): it is a string of its own, of length 1.
 unfoldable pub frameLength : List ℕ → ℕ
 frameLength received =
     cond (eqb (length received) 0) 0

@@ -15,10 +15,10 @@ abbrev pub startFrame : Addresses → List ℕ
 startFrame a = closed (0x81 ∷ a .unit ∷ a .tool ∷ 0x81 ∷ [])
 
 abbrev pub startNumber : ℕ → ℕ
-startNumber room = unless (leb 5 room) bufferShort done
+startNumber outLen = unless (leb 5 outLen) bufferShort done
 
 unfoldable pub startResult : ℕ → Written
-startResult room = writtenBy (startNumber room) 5
+startResult outLen = writtenBy (startNumber outLen) 5
 
 unfoldable pub startOut : Addresses → List ℕ → List ℕ
 startOut a out = changedBy (startNumber (length out)) (front (startFrame a) out) out

@@ -1,4 +1,6 @@
 // Where the frame at the front of a stream of bytes ends.
+use crate::GENERAL;
+use crate::WITHOUT_LEN;
 ghost use mathlib.Core.Path.{_≡_};
 ghost use Rattle.frame.specs.Front.{frameLength};
 
@@ -11,10 +13,10 @@ pub fn frame_length(received: &[u8]) -> usize
         return 0;
     }
     let first = received[0];
-    if first == 0x81 {
+    if first == WITHOUT_LEN {
         return 5;
     }
-    if first != 0x80 {
+    if first != GENERAL {
         return 1;
     }
     if received.len() < 4 {

@@ -1,6 +1,5 @@
 -- The unit's and the tool's calls on packed states: the state is unpacked, the call is made on it, and the next state
--- is packed only where
--- nothing is refused ("Each returns its number with the state as handed in, and writes nothing").
+-- is packed only where nothing is refused ("Each returns its number with the state as handed in, and writes nothing").
 use Prim.Native.Nat.{ℕ}
 use mathlib.Core.List.{List}
 use lib.ListN.{length}

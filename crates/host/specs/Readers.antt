@@ -21,8 +21,7 @@ unfoldable pub unitPhase : List ℕ → ℕ
 unitPhase b = cond (isUnit b) (phaseByte (unpackedUnit b .phase)) noState
 
 -- outcome of a tool (0 fresh, 1 waiting, 2 done, 3 no answer, 4 no room, 5 ended with a wire code), that code, the
--- number
--- expected and the bytes held
+-- number expected and the bytes held
 unfoldable pub toolOutcome : List ℕ → ℕ
 toolOutcome b = cond (isTool b) (outcomeByte (unpackedTool b .outcome)) noState
 

@@ -6,7 +6,6 @@ use services::Phase;
 use services::UnitState;
 use split::SubMessage;
 ghost use mathlib.Core.Path.{_≡_};
-ghost use Rattle.octets.specs.Buffer.{copied};
 ghost use Rattle.host.specs.Packed.{phaseByte, phaseFrom, nameSent, lastSent, packedUnit, isUnit, noUnit};
 ghost use Rattle.host.specs.Packed.{unpackedUnit};
 

@@ -22,7 +22,7 @@ pub extern "C" fn tacho_unit_kind(state: &[u8]) -> usize
     usize_of(unit.kind)
 }
 
-// Its baud rate, 1 to 5.
+// Its baud rate as the bytes have it: 1 to 5 in a possible state.
 #[no_mangle]
 pub extern "C" fn tacho_unit_rate(state: &[u8]) -> usize
     ensures { λ r. ⌜ r ≡ unitRate (now (state .entry)) ⌝ }

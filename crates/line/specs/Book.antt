@@ -1,6 +1,5 @@
 -- Document 01, "The line and the book", second paragraph, and Req 09: one transfer, its book, and the run of both over
--- a list
--- of events.
+-- a list of events.
 use mathlib.Core.Bool.{Bool, true, false, cond, not, _&&_}
 use mathlib.Core.List.{List, [], _∷_}
 use Prim.Native.Nat.{ℕ, suc}
@@ -37,8 +36,7 @@ pub data Outcome : Type 0 where
   waiting done noAnswer heldOff : Outcome
 
 -- The book is document 01's own term: it keeps the frames taken (the document's p), the failed waits and the 78 replies
--- since
--- the last step forward (its f, and h), and whether the transfer has ended.
+-- since the last step forward (its f, and h), and whether the transfer has ended.
 pub record Book : Type 0 where
   pub taken : ℕ
   pub failed : ℕ
@@ -93,8 +91,8 @@ abbrev pub waitsAnew : Book → Book → Bool
 waitsAnew before after = not (eqb (after .taken) (before .taken)) && isWaiting (after .outcome)
 
 -- System and book after some events. putOutBefore: the frames that the tool had put out before the step forward with
--- which
--- its last wait began, so that putOut less putOutBefore is the frames put out since. At done no wait begins: it stays.
+-- which its last wait began, so that putOut less putOutBefore is the frames put out since. At done no wait begins: it
+-- stays.
 pub record Run (E : Ends) : Type 0 where
   pub system : System E
   pub book : Book
@@ -102,10 +100,8 @@ pub record Run (E : Ends) : Type 0 where
 
 module _ (E : Ends) (T : Transfer E) where
   -- "Frame p+1 arriving at the tool is a step forward .. a spoiled string arriving at the tool, raises f by 1 .. All
-  -- else
-  -- .. changes nothing." And "the tool counts 78 replies since its last step forward": those that it counts, h counts.
-  -- Of the
-  -- three, the first that applies.
+  -- else .. changes nothing." And "the tool counts 78 replies since its last step forward": those that it counts, h
+  -- counts. Of the three, the first that applies.
   abbrev pub arrived : List (E .String) → Book → Book
   arrived [] b = b
   arrived (x ∷ xs) b =

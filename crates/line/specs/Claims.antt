@@ -40,8 +40,8 @@ module _ (E : Ends) (T : Transfer E) where
     -- "An acknowledgement never meets 78": 78 replies count before the first frame only
     pub timeBeforeFirst : 1 ≤ r .book .taken → r .book .timeAsked ≡ 0
     -- since the last step forward the tool put out one frame at the step, one at each failed wait but the third and one
-    -- at each
-    -- 78 reply but the twenty-first: its count of sendings, which leaves the 78 replies out, and its count of these
+    -- at each 78 reply but the twenty-first: its count of sendings, which leaves the 78 replies out, and its count of
+    -- these
     pub sentWaiting : r .book .outcome ≡ waiting
         → r .system .putOut ≡ r .putOutBefore + suc (r .book .failed) + r .book .timeAsked
     pub sentNoAnswer : r .book .outcome ≡ noAnswer → r .system .putOut ≡ r .putOutBefore + 3 + r .book .timeAsked
@@ -71,8 +71,7 @@ module _ (E : Ends) (T : Transfer E) (facts : Facts E T) where
   open Facts facts using (request, unitAfter, toolAt)
 
   -- A tool that is done, by its last wait: it had one frame less, and put out one frame, and one more at each failed
-  -- wait and
-  -- each 78 reply of that wait.
+  -- wait and each 78 reply of that wait.
   pub record DoneBy (t : E .ToolState) (putOut before p : ℕ) : Type 0 where
     pub taken : ℕ
     pub failed : ℕ

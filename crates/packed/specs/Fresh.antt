@@ -1,14 +1,12 @@
 -- From the fresh calls to a transfer: a tool that tacho_tool_fresh made begins every transfer that 12 allows, and a
--- unit
--- that tacho_unit_fresh made is granted behind the tool's start, session and upload. So the premises of the claim can
--- be
--- met from there.
+-- unit that tacho_unit_fresh made is granted behind the tool's start, session and upload. So the premises of the claim
+-- can be met from there.
 use mathlib.Core.List.{List}
 use mathlib.Core.Path.{_≡_}
 use Prim.Native.Nat.{ℕ, _<_, _≤_}
 use lib.ListN.{length}
 use Rattle.octets.specs.Numbers.{done}
-use Rattle.frame.specs.Frame.{lab}
+use Rattle.frame.specs.Frame.{frameMost, lab}
 use Rattle.catalog.specs.Name.{nameNumber}
 use Rattle.catalog.specs.declared.AnswerName.{AnswerName}
 use Rattle.store.specs.Layout.{narrow}
@@ -28,10 +26,10 @@ behind store reply request state =
 
 pub record FromFresh : Type 0 where
   pub begins : (state : List ℕ) (name : AnswerName) (output : List ℕ) → length state ≡ 15
-      → nameNumber name ≡ done → 260 ≤ length output
+      → nameNumber name ≡ done → frameMost ≤ length output
       → toolBegin (toolFreshState state) 5 name (length output) .number ≡ done
   pub granted : (kind : ℕ) (state store reply : List ℕ) → kind < 3 → length state ≡ 11
-      → storeNumber narrow store ≡ done → 260 ≤ length reply
+      → storeNumber narrow store ≡ done → frameMost ≤ length reply
       → UnitIs
       (behind store reply requests.Upload
       (behind store reply requests.Session

@@ -1,16 +1,14 @@
 -- DEMAND 3 for the calls that a C host links, at the lab's addresses: the claim of crate download, of runs whose ends
--- are
--- driven through packed bytes. The chain: a call of tacho.h → its promise → a definition (specs/Calls.antt of host) →
--- an
--- end of the cable (PackedEnds.antt) → line, events and book (specs/ of line) → what holds (Agrees and AgreesClean of
--- download) of the states that the bytes are. proofs/Theorem.antt proves it.
+-- are driven through packed bytes. The chain: a call of tacho.h → its promise → a definition (specs/Calls.antt of host)
+-- → an end of the cable (PackedEnds.antt) → line, events and book (specs/ of line) → what holds (Agrees and AgreesClean
+-- of download) of the states that the bytes are. proofs/Theorem.antt proves it.
 use mathlib.Core.Path.{_≡_}
 use mathlib.Core.List.{List}
 use Prim.Native.Nat.{ℕ, _≤_}
 use lib.ListN.{length}
 use lib.Dec.{leb}
 use Rattle.octets.specs.Buffer.{Bytes}
-use Rattle.frame.specs.Frame.{lab}
+use Rattle.frame.specs.Frame.{frameMost, lab}
 use Rattle.host.specs.Packed.{packedUnit, unpackedUnit, requestByte, packedTool, unpackedTool}
 use Rattle.arrival.specs.declared.Request.the-variants as requests
 use Rattle.line.specs.Line.{System, Event}
@@ -23,8 +21,7 @@ use Rattle.download.specs.Demand.{Premises, CallPremise, transfer, Agrees, Agre
 use Rattle.packed.specs.PackedEnds.{UnitGiven, toolBegun, packedEnds}
 
 -- The premises of demand 3, with the state bytes and the output that a host has at the begin: those of a fresh tool, or
--- of
--- any other state that is possible
+-- of any other state that is possible
 pub record StateBytes (given : Premises) : Type 0 where
   pub unit : List ℕ
   pub tool : List ℕ
@@ -52,8 +49,8 @@ module _ (given : Premises) (bytes : StateBytes given) where
         timeMost = transfer lab given .timeMost;
         owed = transfer lab given .owed;
         unitPremise = λ state c. CallPremise given (unpackedUnit state) (lengths c);
-        toolPremise = λ output. 260 ≤ length output;
-        hasRoom = λ c. leb 260 (length (c .reply));
+        toolPremise = λ output. frameMost ≤ length output;
+        hasRoom = λ c. leb frameMost (length (c .reply));
         unit = bytes .unit;
         begun = toolBegun
             (record { request = requestByte requests.Transfer; name = given .name; output = bytes .output })

@@ -123,8 +123,7 @@ unfoldable pub recordOf : ℕ → ℕ → List ℕ → List ℕ
 recordOf array k body = partAt (recordPlace array k body .start) (recordPlace array k body .len) body
 
 -- A record within an array's own slice of so many bytes: "or 10, also for every k of a view whose slice is not size
--- times number bytes
--- or whose size is zero"
+-- times number bytes or whose size is zero"
 unfoldable pub inNumber : ℕ → ℕ → ℕ → ℕ → ℕ
 inNumber bytes size count k =
     unless (ltb 0 size) noSuch

@@ -1,6 +1,6 @@
 -- Document 01, Record arrays: "The view of one array carries a reference to its own slice; it shows the k-th record as
--- that part of the
--- body, or 10, also for every k of a view whose slice is not size times number bytes or whose size is zero".
+-- that part of the body, or 10, also for every k of a view whose slice is not size times number bytes or whose size is
+-- zero".
 use Prim.Native.Nat.{ℕ}
 use mathlib.Core.List.{List}
 use lib.ListN.{length}

@@ -148,8 +148,7 @@ pub fn array_records(body: &[u8], array: usize) -> &[u8]
 }
 
 // Where a record lies in an array's own slice of `records_len` bytes: 10 where there is no such record, and for every
-// one where the slice
-// is not size times number bytes long or the size is zero.
+// one where the slice is not size times number bytes long or the size is zero.
 pub fn record_in(records_len: usize, size: u16, count: u16, record: usize) -> Place
     ensures { λ r. ⌜ r ≡ recordIn «records_len» size count «record» ⌝ }
 {

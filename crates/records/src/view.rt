@@ -1,7 +1,6 @@
 // The view of one array (document 01, Record arrays): a reference to the array's own slice, beside what its header
-// says. The work is done
-// on plain slices and numbers; a function over the view only takes it apart or puts it together, since each is proved
-// by hand.
+// says. The work is done on plain slices and numbers; a function over the view only takes it apart or puts it together,
+// since each is proved by hand.
 ghost use mathlib.Core.Path.{_≡_};
 ghost use Rattle.records.specs.Arrays.{recordOf};
 ghost use Rattle.records.specs.View.{placeIn, partIn, shown, viewed, viewNumber, viewRecord, viewRecordNumber};
@@ -67,8 +66,7 @@ pub fn record_number<'a>(view: ArrayView<'a>, record: usize) -> u8
 }
 
 // A record of the body, read through a view: the promise is that of `record_at`, and its number that of `record_place`.
-// The parameters are
-// plain, so that a caller's proof has no view.
+// The parameters are plain, so that a caller's proof has no view.
 pub fn record_by_view(body: &[u8], array: usize, record: usize) -> &[u8]
     ensures { λ r. ⌜ now r ≡ recordOf array «record» (now (body .entry)) ⌝ }
 {

@@ -22,7 +22,7 @@ use Rattle.frame.specs.declared.End.the-variants as ends
 use Rattle.frame.specs.Frame.{writeNumber, writeResult, writeOut}
 use Rattle.split.specs.declared.SubMessage.{SubMessage}
 use Rattle.split.specs.Codes.{code, nextOf, acknowledgeOf}
-use Rattle.split.specs.Split.{dataMost, singleMost, pieceSize, isSplit, countOf, subMessages, carries, pieceNumber, piecePlace, pieceOf, subField}
+use Rattle.split.specs.Split.{dataMost, singleMost, pieceSize, isSplit, countOf, subMessages, carries, pieceNumber, piecePlace, subField}
 use Rattle.split.specs.Split.{subFrame, subNumber, subResult, subOut}
 
 -- the code that acknowledges a sub message, from the number behind it
@@ -130,8 +130,8 @@ take-min m l n e =
     ]
 
 -- the part at that place is what the sub message carries
-pub piece-carries : (k : ℕ) (d : List ℕ) → pieceNumber (length d) k ≡ 0 → pieceOf k d ≡ carries k d
-unfolding pieceOf piecePlace carries
+pub piece-carries : (k : ℕ) (d : List ℕ) → pieceNumber (length d) k ≡ 0 → partAt (piecePlace (length d) k .start) (piecePlace (length d) k .len) d ≡ carries k d
+unfolding piecePlace carries
 piece-carries k d z =
     let s : ℕ = (k - 1) * pieceSize in
     let r : length (drop s d) ≡ length d - s = length-drop s d in
@@ -206,7 +206,6 @@ module _ (a : Addresses) (trep k : ℕ) (d : List ℕ) (place : Place) (is : pla
   pub sub-piece : (p o o′ : List ℕ) (r : Written) → place .number ≡ 0 → singleMost < length d → p ≡ partAt (place .start) (place .len) d
       → r ≡ writeResult ((0x76 ∷ trep ∷ k / 256 % 256 ∷ k % 256 ∷ []) ++ p) (length o)
       → o′ ≡ writeOut a ends.Tool ((0x76 ∷ trep ∷ k / 256 % 256 ∷ k % 256 ∷ []) ++ p) o → (r ≡ subResult trep k d (length o)) × (o′ ≡ subOut a trep k d o)
-  unfolding pieceOf
   sub-piece p o o′ r z h q w v =
       let c : p ≡ carries k d = q ∙ ap (λ (x : Place). partAt (x .start) (x .len) d) is ∙ piece-carries k d (sym number-of-place ∙ z) in
       let t : carries k d ≡ take pieceSize (drop ((k - 1) * pieceSize) d) = carries-split k d h in

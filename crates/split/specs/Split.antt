@@ -7,7 +7,7 @@ use lib.Dec.{ltb, leb}
 use Rattle.octets.specs.Order.{unless, orElse}
 use Rattle.octets.specs.Numbers.{done, bufferShort, overBound, noSuch, changedBy, writtenBy, placeBy, countedBy}
 use Rattle.octets.specs.BigEndian.{bytesOf}
-use Rattle.octets.specs.Buffer.{partAt, front}
+use Rattle.octets.specs.Buffer.{front}
 use Rattle.octets.specs.declared.Written.{Written}
 use Rattle.octets.specs.declared.Place.{Place}
 use Rattle.octets.specs.declared.Counted.{Counted}
@@ -52,9 +52,6 @@ piecePlace n k =
     (cond (isSplit n) ((k - 1) * pieceSize) 0)
     (cond (isSplit n) (min pieceSize (n - (k - 1) * pieceSize)) n)
 
-unfoldable pub pieceOf : ℕ → List ℕ → List ℕ
-pieceOf k d = partAt (piecePlace (length d) k .start) (piecePlace (length d) k .len) d
-
 -- the data field of sub message k: "76, TREP, data", or "76, TREP, a two-byte number from 1, then .. data bytes"
 unfoldable pub subField : ℕ → ℕ → List ℕ → List ℕ
 subField trep k d = 0x76 ∷ trep ∷ (cond (isSplit (length d)) (bytesOf 2 k) [] ++ carries k d)
@@ -65,13 +62,13 @@ subFrame a trep k d = frameOf a ends.Tool (subField trep k d)
 
 -- "Writing one sub message (any TREP byte; an unsplit frame is its number 1): 8, 10, 4"
 unfoldable pub subNumber : ℕ → ℕ → List ℕ → ℕ → ℕ
-subNumber trep k d room =
+subNumber trep k d outLen =
     orElse (pieceNumber (length d) k)
-    (unless (leb (length (subField trep k d) + 5) room) bufferShort
+    (unless (leb (length (subField trep k d) + 5) outLen) bufferShort
     done)
 
 unfoldable pub subResult : ℕ → ℕ → List ℕ → ℕ → Written
-subResult trep k d room = writtenBy (subNumber trep k d room) (length (subField trep k d) + 5)
+subResult trep k d outLen = writtenBy (subNumber trep k d outLen) (length (subField trep k d) + 5)
 
 unfoldable pub subOut : Addresses → ℕ → ℕ → List ℕ → List ℕ → List ℕ
 subOut a trep k d out = changedBy (subNumber trep k d (length out)) (front (subFrame a trep k d) out) out

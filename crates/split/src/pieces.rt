@@ -5,7 +5,7 @@ use octets::Place;
 use octets::numbers::NO_SUCH;
 use octets::numbers::OVER_BOUND;
 ghost use mathlib.Core.Path.{_≡_};
-ghost use Rattle.split.specs.Split.{isSplit, countOf, subMessages, pieceNumber, piecePlace, pieceOf};
+ghost use Rattle.split.specs.Split.{isSplit, countOf, subMessages, pieceNumber, piecePlace};
 
 // The most data bytes of an answer.
 pub const DATA_MOST: usize = 59998;
@@ -90,11 +90,4 @@ pub fn locate(len: usize, message: SubMessage) -> Place
         start,
         len: PIECE,
     }
-}
-
-// The data bytes that the sub message carries, as that part of the data; empty where `locate` refuses it.
-pub fn piece(data: &[u8], message: SubMessage) -> &[u8]
-    ensures { λ r. ⌜ now r ≡ pieceOf (message .0) (now («data» .entry)) ⌝ }
-{
-    octets::buffer::part(data, locate(data.len(), message))
 }

@@ -3,6 +3,7 @@ use Rattle.store.specs.Layout.{Form, Sized}
 use Rattle.store.specs.Claims.{NumberClaims, ListClaims, NarrowClaims, StoreClaims}
 use Rattle.store.proofs.StoreLaws.{store-either}
 use Rattle.store.proofs.ContentsLaws.{contents-holdable}
+use Rattle.store.proofs.ListLaws.{is-among, answer-of}
 use Rattle.store.proofs.OwnBytes.{own-bytes}
 use Rattle.store.proofs.Theorems.{written-unbroken, written-contents, lookup-is, lookup-bytes, stream-is, kth-is, kth-bytes, none-left}
 use Rattle.store.proofs.Refusals.{store-five, lookup-five, stream-five, held-five, lookup-six, answer-either, unlisted-number, number-unlisted}
@@ -26,6 +27,8 @@ list f sized =
       holdable = λ s formed z. contents-holdable f s z (formed .bytes);
       unbroken = written-unbroken f sized;
       back = written-contents f sized;
+      named = λ gs i fit. is-among f gs fit i;
+      namedBytes = λ gs i fit. answer-of f gs fit i;
       lookup = λ name s z. lookup-is f s z name;
       lookupBytes = λ name s z. lookup-bytes f s z name;
       stream = stream-is f;

@@ -1,6 +1,6 @@
 -- Names in a list of answers: each is found at its own place, and one answer more at the end changes nothing for the other names.
 use Prim.Native.Nat.{ℕ, _+_, _<_, _≤_}
-use mathlib.Core.Bool.{Bool, false}
+use mathlib.Core.Bool.{Bool, true, false}
 use mathlib.Core.List.{List, [], _∷_, _++_, append-nil}
 use mathlib.Core.Path.{_≡_, sym, ap, _∙_}
 use native.Mathlib.Omega.{arith}
@@ -24,6 +24,13 @@ pub place-of : (f : Form) (gs : List Stored) → Holdable f gs → (i : ℕ) →
 place-of f gs fit i h =
     let name : AnswerName = nameFor (getD gs i nothing) in
     first-found (named name gs) (length gs) i h (same-self name) (λ j l. same-not (nameFor (getD gs j nothing)) name (fit .different j i l h))
+
+pub is-among : (f : Form) (gs : List Stored) → Holdable f gs → (i : ℕ) → i < length gs → isAmong (nameFor (getD gs i nothing)) gs ≡ true
+is-among f gs fit i h = rw (place-of f gs fit i h) (lt-ltb i (length gs) h)
+
+pub answer-of : (f : Form) (gs : List Stored) → Holdable f gs → (i : ℕ) → i < length gs
+    → answerNamed (nameFor (getD gs i nothing)) gs ≡ getD gs i nothing .answer
+answer-of f gs fit i h = ap (λ (k : ℕ). getD gs k nothing .answer) (place-of f gs fit i h)
 
 -- One answer more
 

@@ -1,8 +1,7 @@
 -- What is claimed of the bench store (document 01, Bench store; House numbers): that it is a list, and that each number
--- is
--- "Given exactly when" its rule says. For every form whose bounds fit its fields; proofs/Claims.antt proves it.
+-- is "Given exactly when" its rule says. For every form whose bounds fit its fields; proofs/Claims.antt proves it.
 use Prim.Native.Nat.{ℕ, _<_, _≤_}
-use mathlib.Core.Bool.{false}
+use mathlib.Core.Bool.{true, false}
 use mathlib.Core.List.{List, [], _∷_, _++_}
 use mathlib.Core.Logic.{_↔_, _⊎_, _≢_}
 use mathlib.Core.Path.{_≡_}
@@ -72,6 +71,11 @@ module _ (f : Form) where
     -- the store of a list that it may hold is unbroken, whatever stands behind it, and has that list as its contents
     pub unbroken : (gs : List Stored) (rest : List ℕ) → Holdable f gs → storeNumber f (storeOf f gs ++ rest) ≡ done
     pub back : (gs : List Stored) (rest : List ℕ) → Holdable f gs → contents f (storeOf f gs ++ rest) ≡ gs
+    -- in such a list each name is that of one answer, and is found as that answer
+    pub named : (gs : List Stored) (i : ℕ) → Holdable f gs → i < length gs
+        → isAmong (nameFor (getD gs i nothing)) gs ≡ true
+    pub namedBytes : (gs : List Stored) (i : ℕ) → Holdable f gs → i < length gs
+        → answerNamed (nameFor (getD gs i nothing)) gs ≡ getD gs i nothing .answer
     -- a lookup of an unbroken store is one of the list
     pub lookup : (name : AnswerName) (s : List ℕ) → storeNumber f s ≡ done
         → lookupNumber f name s ≡ unless (isAmong name (contents f s)) notHeld done

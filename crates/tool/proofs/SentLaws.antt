@@ -1,18 +1,17 @@
 -- The frames that are sent: each has 5 to 260 bytes, so a buffer of 260 takes it.
-use Prim.Native.Nat.{ℕ, _+_, _-_, _/_, _%_, _≤_}
+use Prim.Native.Nat.{ℕ, _-_, _/_, _%_, _≤_}
 use mathlib.Core.Bool.{true, false}
 use mathlib.Core.List.{List, [], _∷_}
-use mathlib.Core.Path.{_≡_, refl, sym}
+use mathlib.Core.Path.{_≡_, refl}
 use native.Mathlib.Omega.{arith}
 use lib.ListN.{length}
-use borrow.Author.Tests.{lt-ltb, le-leb, eq-eqb, ne-eqb}
+use borrow.Author.Tests.{le-leb, eq-eqb, ne-eqb}
 use Rattle.octets.specs.Buffer.{front}
 use Rattle.octets.specs.declared.Written.{Written}
 use Rattle.frame.specs.declared.Addresses.{Addresses}
 use Rattle.frame.specs.declared.End.{End}
-use Rattle.frame.specs.Frame.{closed, frameOf, writeNumber, writeResult, writeOut}
+use Rattle.frame.specs.Frame.{frameMost, closed, frameOf}
 use Rattle.frame.specs.Messages.{startFrame, startResult, startOut}
-use Rattle.frame.proofs.WriteLaws.{length-frame}
 use Rattle.catalog.specs.Table.{isActivities}
 use Rattle.catalog.specs.declared.AnswerName.{AnswerName}
 use Rattle.split.specs.Codes.{sub, acknowledgeOf}
@@ -21,22 +20,9 @@ use Rattle.split.specs.declared.AckCode.{AckCode}
 use Rattle.arrival.specs.declared.Request.{Request}
 use Rattle.tool.specs.Sent.{transferRequest, acknowledgement, transferData, frameSent}
 
--- A frame written into 260 bytes or more
+-- The start written into 260 bytes or more
 
-module _ (a : Addresses) (end : End) (d o : List ℕ) (some : 1 ≤ length d) (most : length d ≤ 255) (room : 260 ≤ length o) where
-  not-refused : writeNumber (length d) (length o) ≡ 0
-  unfolding writeNumber
-  not-refused = rw (lt-ltb 0 (length d) some, le-leb (length d) 255 most, le-leb (length d + 5) (length o) (omega arith))
-
-  pub written-length : (w : Written) → w ≡ writeResult d (length o) → w .len ≡ length (frameOf a end d)
-  unfolding writeResult
-  written-length w e = rw (e, not-refused) (sym (length-frame a end d))
-
-  pub written-out : (o′ : List ℕ) → o′ ≡ writeOut a end d o → o′ ≡ front (frameOf a end d) o
-  unfolding writeOut
-  written-out o′ e = rw not-refused at e
-
-module _ (a : Addresses) (o : List ℕ) (room : 260 ≤ length o) where
+module _ (a : Addresses) (o : List ℕ) (room : frameMost ≤ length o) where
   pub start-length : (w : Written) → w ≡ startResult (length o) → w .len ≡ length (startFrame a)
   unfolding startResult closed
   start-length w e = rw (e, le-leb 5 (length o) (omega arith))

@@ -4,6 +4,7 @@ use mathlib.Core.Bool.{cond, not, _&&_}
 use mathlib.Core.List.{List, []}
 use lib.ListN.{length}
 use lib.Dec.{eqb, leb}
+use Rattle.frame.specs.Frame.{frameMost}
 use Rattle.octets.specs.Order.{unless, orElse}
 use Rattle.octets.specs.Numbers.{done, bufferShort, outOfTurn, notInTable, changedBy}
 use Rattle.octets.specs.Buffer.{front}
@@ -35,7 +36,7 @@ unfoldable pub beginNumber : ToolState → Request → AnswerName → ℕ → �
 beginNumber t request name outLen =
     orElse (requestNumber request name)
     (unless (not (isWaiting (t .outcome))) outOfTurn
-    (unless (leb 260 outLen) bufferShort
+    (unless (leb frameMost outLen) bufferShort
     done))
 
 -- "It sends the frame, sets sendings 1, expected 1, held 0 .., then waits"
@@ -66,7 +67,7 @@ beginOut a t request name out = front (beginSent a t request name (length out)) 
 unfoldable pub eventNumber : ToolState → ℕ → ℕ → ℕ
 eventNumber t roomLen outLen =
     unless (isWaiting (t .outcome) && possible roomLen t) outOfTurn
-    (unless (leb 260 outLen) bufferShort
+    (unless (leb frameMost outLen) bufferShort
     done)
 
 -- an event that means m and adds n bytes: the next state and the frame sent need no more of the room than its length

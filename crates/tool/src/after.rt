@@ -8,7 +8,7 @@ ghost use mathlib.Core.Bool.{true};
 ghost use Prim.Native.Nat.{_+_, _≤_, _<_};
 ghost use lib.ListN.{length};
 ghost use Rattle.octets.specs.Buffer.{front};
-ghost use Rattle.frame.specs.Frame.{lab};
+ghost use Rattle.frame.specs.Frame.{frameMost, lab};
 ghost use Rattle.arrival.specs.State.{heldMost};
 ghost use Rattle.tool.specs.After.{ended, waits, afterFailedWait, takes, stateAfter, sentAfter};
 
@@ -110,7 +110,7 @@ pub(crate) fn state_after(state: ToolState, meaning: Meaning, new: usize) -> Too
 // Writes the frame that goes out at the front of `out` and answers its length, 0 for none.
 pub(crate) fn write_sent(state: ToolState, meaning: Meaning, out: &mut [u8]) -> usize
     requires { ⌜ (takes meaning ≡ true → state .expected .0 < 65535) ⌝ }
-    requires { ⌜ 260 ≤ length (now out) ⌝ }
+    requires { ⌜ frameMost ≤ length (now out) ⌝ }
     ensures { λ n. ⌜ n ≡ length (sentAfter lab state meaning) ⌝ }
     ensures { λ _. ⌜ now (out .exit) ≡ front (sentAfter lab state meaning) (now (out .entry)) ⌝ }
 {

@@ -15,7 +15,7 @@ ghost use mathlib.Core.Path.{_≡_};
 ghost use Prim.Native.Nat.{_-_, _≤_};
 ghost use lib.ListN.{length};
 ghost use Rattle.octets.specs.Buffer.{front};
-ghost use Rattle.frame.specs.Frame.{lab, frameOf};
+ghost use Rattle.frame.specs.Frame.{frameMost, lab, frameOf};
 ghost use Rattle.frame.specs.declared.End.the-variants as ends;
 ghost use Rattle.split.specs.Codes.{sub};
 ghost use Rattle.tool.specs.Sent.{transferRequest, acknowledgement, transferData, frameSent};
@@ -24,7 +24,7 @@ ghost use Rattle.tool.specs.Sent.{transferRequest, acknowledgement, tran
 fn write_data(data: &[u8], out: &mut [u8]) -> usize
     requires { ⌜ 1 ≤ length (now «data») ⌝ }
     requires { ⌜ length (now «data») ≤ 255 ⌝ }
-    requires { ⌜ 260 ≤ length (now out) ⌝ }
+    requires { ⌜ frameMost ≤ length (now out) ⌝ }
     ensures { λ n. ⌜ n ≡ length (frameOf lab ends.Unit (now («data» .entry))) ⌝ }
     ensures { λ _. ⌜ now (out .exit) ≡ front (frameOf lab ends.Unit (now («data» .entry))) (now (out .entry)) ⌝ }
 {
@@ -33,7 +33,7 @@ fn write_data(data: &[u8], out: &mut [u8]) -> usize
 }
 
 fn write_transfer_request(name: AnswerName, out: &mut [u8]) -> usize
-    requires { ⌜ 260 ≤ length (now out) ⌝ }
+    requires { ⌜ frameMost ≤ length (now out) ⌝ }
     ensures { λ n. ⌜ n ≡ length (frameOf lab ends.Unit (transferRequest name)) ⌝ }
     ensures { λ _. ⌜ now (out .exit) ≡ front (frameOf lab ends.Unit (transferRequest name)) (now (out .entry)) ⌝ }
 {
@@ -55,7 +55,7 @@ fn write_transfer_request(name: AnswerName, out: &mut [u8]) -> usize
 
 // 83 76 and a code (DDP_017).
 pub(crate) fn write_acknowledgement(code: AckCode, out: &mut [u8]) -> usize
-    requires { ⌜ 260 ≤ length (now out) ⌝ }
+    requires { ⌜ frameMost ≤ length (now out) ⌝ }
     ensures { λ n. ⌜ n ≡ length (frameOf lab ends.Unit (acknowledgement code)) ⌝ }
     ensures { λ _. ⌜ now (out .exit) ≡ front (frameOf lab ends.Unit (acknowledgement code)) (now (out .entry)) ⌝ }
 {
@@ -77,7 +77,7 @@ fn before(expected: SubMessage) -> SubMessage
 
 // With 1 expected the transfer request is out, else the acknowledgement of the sub message before.
 fn write_transfer(name: AnswerName, expected: SubMessage, out: &mut [u8]) -> usize
-    requires { ⌜ 260 ≤ length (now out) ⌝ }
+    requires { ⌜ frameMost ≤ length (now out) ⌝ }
     ensures { λ n. ⌜ n ≡ length (frameOf lab ends.Unit (transferData name (expected .0))) ⌝ }
     ensures { λ _. ⌜ now (out .exit) ≡
         front (frameOf lab ends.Unit (transferData name (expected .0))) (now (out .entry)) ⌝ }
@@ -95,7 +95,7 @@ pub(crate) fn write_request(
     expected: SubMessage,
     out: &mut [u8],
 ) -> usize
-    requires { ⌜ 260 ≤ length (now out) ⌝ }
+    requires { ⌜ frameMost ≤ length (now out) ⌝ }
     ensures { λ n. ⌜ n ≡ length (frameSent lab request name (expected .0)) ⌝ }
     ensures { λ _. ⌜ now (out .exit) ≡ front (frameSent lab request name (expected .0)) (now (out .entry)) ⌝ }
 {

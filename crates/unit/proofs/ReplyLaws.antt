@@ -12,8 +12,8 @@ use Rattle.octets.specs.declared.Place.{Place}
 use Rattle.octets.specs.declared.Written.{Written}
 use Rattle.frame.specs.declared.Addresses.{Addresses}
 use Rattle.frame.specs.declared.End.the-variants as ends
-use Rattle.frame.specs.Frame.{lab, frameOf, writeNumber, writeResult, writeOut}
-use Rattle.frame.proofs.WriteLaws.{length-frame, number-good}
+use Rattle.frame.specs.Frame.{frameMost, lab, frameOf, writeResult, writeOut}
+use Rattle.frame.proofs.WriteLaws.{length-frame, written-length, written-out}
 use Rattle.catalog.specs.declared.AnswerName.{AnswerName}
 use Rattle.split.specs.Split.{pieceNumber, subField, subFrame, subNumber, subResult, subOut}
 use Rattle.split.specs.Join.{carriedBy}
@@ -34,17 +34,12 @@ reply-is a [] h = absurd (omega arith)
 reply-is a (x ∷ d) h = refl
 
 -- A frame written in a buffer of 260 bytes
-module _ (d o : List ℕ) (some : 0 < length d) (most : length d ≤ 255) (room : 260 ≤ length o) where
-  number-fits : writeNumber (length d) (length o) ≡ 0
-  number-fits = sym (number-good [] d (length o) (omega arith) (omega arith) (omega arith))
-
+module _ (d o : List ℕ) (some : 0 < length d) (most : length d ≤ 255) (room : frameMost ≤ length o) where
   pub sent-length : (w : Written) → w ≡ writeResult d (length o) → w .len ≡ length (replyTo lab d)
-  unfolding writeResult
-  sent-length w e = rw (e, number-fits, reply-is lab d some) (sym (length-frame lab ends.Tool d))
+  sent-length w e = rw (reply-is lab d some) (written-length lab ends.Tool d o some most room w e)
 
   pub sent-out : (o′ : List ℕ) → o′ ≡ writeOut lab ends.Tool d o → o′ ≡ front (replyTo lab d) o
-  unfolding writeOut
-  sent-out o′ e = rw (e, number-fits, reply-is lab d some)
+  sent-out o′ e = rw (reply-is lab d some) (written-out lab ends.Tool d o some most room o′ e)
 
 -- A sub message written there
 module _ (trep k : ℕ) (d o : List ℕ) (such : pieceNumber (length d) k ≡ 0) (room : 260 ≤ length o) where

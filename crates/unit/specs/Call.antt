@@ -10,7 +10,7 @@ use Rattle.octets.specs.Buffer.{partAt, front}
 use Rattle.octets.specs.declared.Place.{Place}
 use Rattle.frame.specs.declared.Addresses.{Addresses}
 use Rattle.frame.specs.declared.End.the-variants as ends
-use Rattle.frame.specs.Frame.{frameOf, isStart, judged, dataOf}
+use Rattle.frame.specs.Frame.{frameMost, frameOf, isStart, judged, dataOf}
 use Rattle.frame.specs.Messages.{startReply, sessionReply, rateReply, uploadReply, exitReply, stopReply}
 use Rattle.split.specs.Split.{subField}
 use Rattle.store.specs.Layout.{narrow}
@@ -68,34 +68,34 @@ replyTo a (x ∷ d) = frameOf a ends.Tool (x ∷ d)
 
 -- "5, 11, 4 (reply buffer under 260)"
 unfoldable pub numberBefore : ℕ → Bool → ℕ → ℕ
-numberBefore broken isPossible room =
+numberBefore broken isPossible outLen =
     orElse broken
     (unless isPossible outOfTurn
-    (unless (leb 260 room) bufferShort
+    (unless (leb frameMost outLen) bufferShort
     done))
 
 -- "Unit call: 5, 11, 4 (reply buffer under 260), then frame numbers"
 unfoldable pub unitNumber : Addresses → List ℕ → ℕ → UnitState → List ℕ → ℕ
-unitNumber a store room u b =
-    orElse (numberBefore (storeNumber narrow store) (possible store u) room)
+unitNumber a store outLen u b =
+    orElse (numberBefore (storeNumber narrow store) (possible store u) outLen)
     (judged a ends.Unit b)
 
 -- the next state, and the reply where nothing is refused
 unfoldable pub unitState : Addresses → List ℕ → ℕ → UnitState → List ℕ → UnitState
-unitState a store room u b = changedBy (unitNumber a store room u b) (stateAfter u (reactionTo a store u b)) u
+unitState a store outLen u b = changedBy (unitNumber a store outLen u b) (stateAfter u (reactionTo a store u b)) u
 
 unfoldable pub unitReply : Addresses → List ℕ → ℕ → UnitState → List ℕ → List ℕ
-unitReply a store room u b =
-    changedBy (unitNumber a store room u b) (replyTo a (replyData store (reactionTo a store u b))) []
+unitReply a store outLen u b =
+    changedBy (unitNumber a store outLen u b) (replyTo a (replyData store (reactionTo a store u b))) []
 
 -- what the call hands back, and the reply buffer at exit: "A reply of m bytes changes only the first m of its buffer;
 -- silence changes none"
 unfoldable pub unitResult : Addresses → List ℕ → ℕ → UnitState → List ℕ → UnitReply
-unitResult a store room u b =
+unitResult a store outLen u b =
     record {
-      number = unitNumber a store room u b;
-      state = unitState a store room u b;
-      len = length (unitReply a store room u b);
+      number = unitNumber a store outLen u b;
+      state = unitState a store outLen u b;
+      len = length (unitReply a store outLen u b);
     }
 
 unfoldable pub unitOut : Addresses → List ℕ → UnitState → List ℕ → List ℕ → List ℕ

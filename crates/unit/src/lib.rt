@@ -2,7 +2,6 @@
 // the store. Its state and its services are crate `services`.
 pub mod call;
 mod reply;
-pub mod state;
 
 use services::UnitState;
 

@@ -15,7 +15,7 @@ ghost use mathlib.Core.Path.{_≡_};
 ghost use Prim.Native.Nat.{_≤_, _<_};
 ghost use lib.ListN.{length};
 ghost use Rattle.octets.specs.Buffer.{front};
-ghost use Rattle.frame.specs.Frame.{lab};
+ghost use Rattle.frame.specs.Frame.{frameMost, lab};
 ghost use Rattle.split.specs.Split.{pieceNumber, subField};
 ghost use Rattle.unit.specs.Call.{dataIn, replyData, replyTo};
 ghost use Rattle.unit.specs.Piece.{pieceSent};
@@ -23,7 +23,7 @@ ghost use Rattle.unit.specs.Piece.{pieceSent};
 fn send(data: &[u8], reply: &mut [u8]) -> usize
     requires { ⌜ 0 < length (now «data») ⌝ }
     requires { ⌜ length (now «data») ≤ 255 ⌝ }
-    requires { ⌜ 260 ≤ length (now reply) ⌝ }
+    requires { ⌜ frameMost ≤ length (now reply) ⌝ }
     ensures { λ r. ⌜ r ≡ length (replyTo lab (now («data» .entry))) ⌝ }
     ensures { λ _. ⌜ now (reply .exit) ≡ front (replyTo lab (now («data» .entry))) (now (reply .entry)) ⌝ }
 {
@@ -34,7 +34,7 @@ fn send(data: &[u8], reply: &mut [u8]) -> usize
 // answer.
 fn send_answer(store: &[u8], trep: u8, message: SubMessage, place: Place, reply: &mut [u8]) -> usize
     requires { ⌜ pieceNumber (length (dataIn (now store) place)) (message .0) ≡ 0 ⌝ }
-    requires { ⌜ 260 ≤ length (now reply) ⌝ }
+    requires { ⌜ frameMost ≤ length (now reply) ⌝ }
     ensures { λ r. ⌜ r ≡ length (replyTo lab (subField trep (message .0) (dataIn (now (store .entry)) place))) ⌝ }
     ensures { λ _. ⌜
         now (reply .exit)
@@ -49,7 +49,7 @@ fn send_answer(store: &[u8], trep: u8, message: SubMessage, place: Place, reply:
 // The reply to a good frame at the front of `reply`, and its length: 0 for silence.
 pub(crate) fn write_reply(reaction: Reaction, store: &[u8], reply: &mut [u8]) -> usize
     requires { ⌜ pieceSent (now store) reaction ≡ 0 ⌝ }
-    requires { ⌜ 260 ≤ length (now reply) ⌝ }
+    requires { ⌜ frameMost ≤ length (now reply) ⌝ }
     ensures { λ r. ⌜ r ≡ length (replyTo lab (replyData (now (store .entry)) reaction)) ⌝ }
     ensures { λ _. ⌜
         now (reply .exit)

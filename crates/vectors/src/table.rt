@@ -7,8 +7,7 @@ ghost use Prim.Native.Nat.{_≤_, _<_};
 ghost use lib.ListN.{length};
 
 // A row is a name and bytes, each behind its length. Here are the frames that the table gives whole, to the unit and to
-// the
-// tool.
+// the tool.
 const TO_UNIT: [u8; 340] = *b"\
     \x13start communication\x05\x81\xee\xf0\x81\xe0\
     \x18start diagnostic session\x07\x80\xee\xf0\x02\x10\x81\xf1\

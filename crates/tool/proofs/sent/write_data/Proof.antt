@@ -1,5 +1,5 @@
 -- 260 bytes take every frame.
-use Rattle.tool.proofs.SentLaws.{written-length, written-out}
+use Rattle.frame.proofs.WriteLaws.{written-length, written-out}
 use borrow.Author.Needs.{needs}
 use Rattle.tool.proofs.sent.write_data.Statement.{statement}
 use Rattle.tool.proofs.sent.write_data.Tie as tie
