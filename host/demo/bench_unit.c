@@ -16,13 +16,14 @@ static const char help[] =
     "  --parity WHICH   even, odd or none (default even: Appendix 6 asks for it, which is not among this\n"
     "                   build's sources)\n"
     "  --kind N         0 generation 1, 1 generation 2 version 1, 2 generation 2 version 2 (default 2)\n"
-    "  --silence N      so many milliseconds without a byte end a string (P4; default 20)\n"
+    "  --silence N      so many milliseconds without a byte end a string (P4 is at most 20; default 25: a byte takes over 1 by itself,\n"
+    "                   and some adapters hand bytes on late)\n"
     "  --delay N        milliseconds from a request to its reply (P2, 20 to 1,000; default 20)\n"
     "  --gap N          milliseconds between the bytes of a reply (P1, 0 to 20; default 0)\n"
     "  --lose N --repeat N --spoil N   of a thousand replies (default 0)\n"
     "  --seed N         of the faults (default 1)\n"
     "  --idle N         end after N seconds without a byte (default 10)\n"
-    "Ends with status 0 when communication was stopped, 1 when the line was idle or is gone, 2 for bad options or files.\n";
+    "Ends with status 0 half a second after communication was stopped, unless it is started again, 1 when the line was idle or is gone, 2 for bad options or files.\n";
 
 /* The rates of link control, 1 to 5. */
 static const unsigned long bauds[] = {0, 9600, 19200, 38400, 57600, 115200};
@@ -88,18 +89,19 @@ static int serve(line *l, uint8_t *state, const uint8_t *store, size_t store_len
         else if (phase != TACHO_PHASE_CLOSED) stopped = true;
     }
     printf("unit: %lu strings heard; of its replies %u lost, %u repeated, %u spoiled\n", heard, l->lost, l->repeated, l->spoiled);
+    if (stopped) return 0;
     if (n < 0) fputs("unit: the line is gone\n", stderr);
-    else if (!stopped) fprintf(stderr, "unit: the line was idle for %lu seconds\n", s->idle);
-    return stopped ? 0 : 1;
+    else fprintf(stderr, "unit: the line was idle for %lu seconds\n", s->idle);
+    return 1;
 }
 
 int main(int argc, char **argv)
 {
-    settings s = {.parity = "even", .kind = 2, .seed = 1, .idle = 10, .silence = 20, .delay = 20};
+    settings s = {.parity = "even", .kind = 2, .seed = 1, .idle = 10, .silence = 25, .delay = 20};
     size_t store_len;
     uint8_t state[TACHO_UNIT_STATE];
     if (!read_settings(argc, argv, &s)) return 2;
-    if (s.help) return fputs(help, stdout) < 0;
+    if (s.help) return help_said(help);
     uint8_t *store = file_read(s.store, 1 << 20, &store_len);
     if (!store) return 2;
     uint8_t number = tacho_store_check(store, store_len);
