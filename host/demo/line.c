@@ -43,6 +43,9 @@ static bool set_up(int fd, const line_port *port)
     cfmakeraw(&t);
     t.c_cflag &= ~(tcflag_t)(CSTOPB | PARENB | PARODD | CRTSCTS);
     t.c_cflag |= CLOCAL | CREAD;
+    /* a byte with a wrong parity or stop bit reads as 00, and its string is refused (DDP_022, DDP_025) */
+    t.c_iflag &= ~(tcflag_t)IGNPAR;
+    t.c_iflag |= INPCK;
     if (strcmp(port->parity, "none") && !is_pseudo(fd)) t.c_cflag |= PARENB | (strcmp(port->parity, "odd") ? 0 : PARODD);
     cfsetispeed(&t, speed);
     cfsetospeed(&t, speed);
@@ -67,8 +70,10 @@ bool line_open(line *l, const char *path, const line_port *port)
     }
     if (!set_up(l->fd, port)) {
         fprintf(stderr, "%s: not a serial port or pseudo-terminal, or not one that can be set up so\n", path);
+        close(l->fd);
         return false;
     }
+    tcflush(l->fd, TCIFLUSH); /* what came before belongs to nobody here */
     return true;
 }
 
