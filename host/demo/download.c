@@ -113,7 +113,7 @@ static bool ask(uint8_t request, uint8_t trep, uint32_t day, const char *what)
     return false;
 }
 
-/* The next answer of the list: false where it is malformed, with no more than a comma behind the last one too. */
+/* The next answer of the list: false where it is malformed, as by a comma behind the last one. */
 static bool next_answer(const char **list, uint8_t *trep, uint32_t *day)
 {
     char *end;
