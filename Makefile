@@ -63,7 +63,7 @@ install: $(LIBRARY)
 	@install -d $(DESTDIR)$(PREFIX)/include $(DESTDIR)$(PREFIX)/lib/pkgconfig
 	@install -m 644 host/include/tacho.h $(DESTDIR)$(PREFIX)/include/tacho.h
 	@install -m 644 $(LIBRARY) $(DESTDIR)$(PREFIX)/lib/libtacho.a
-	@sed 's|@PREFIX@|$(PREFIX)|; s|@VERSION@|$(VERSION)|' host/lib/tacho.pc.in >$(DESTDIR)$(PREFIX)/lib/pkgconfig/tacho.pc
+	@sed 's|@PREFIX@|$(abspath $(PREFIX))|; s|@VERSION@|$(VERSION)|' host/lib/tacho.pc.in >$(DESTDIR)$(PREFIX)/lib/pkgconfig/tacho.pc
 	@echo "installed to $(DESTDIR)$(PREFIX): include/tacho.h, lib/libtacho.a, lib/pkgconfig/tacho.pc"
 
 $(BUILT)/bench_unit $(BUILT)/download: $(BUILT)/%: host/demo/%.c host/demo/line.c host/demo/options.c $(LIBRARY) $(HEADERS)

@@ -5,6 +5,7 @@
 
 #include <stdio.h>
 #include <stdlib.h>
+#include <string.h>
 
 static const char help[] =
     "bench_unit: a teaching vehicle unit that serves a store file\n"
@@ -16,13 +17,16 @@ static const char help[] =
     "  --parity WHICH   even, odd or none (default even: Appendix 6 asks for it, which is not among this\n"
     "                   build's sources)\n"
     "  --kind N         0 generation 1, 1 generation 2 version 1, 2 generation 2 version 2 (default 2)\n"
-    "  --silence N      so many milliseconds without a byte end a string (P4; default 20)\n"
+    "  --silence N      so many milliseconds without a byte end a string (P4 is at most 20; default 25: a byte takes over 1 by itself,\n"
+    "                   and some adapters hand bytes on late)\n"
     "  --delay N        milliseconds from a request to its reply (P2, 20 to 1,000; default 20)\n"
     "  --gap N          milliseconds between the bytes of a reply (P1, 0 to 20; default 0)\n"
     "  --lose N --repeat N --spoil N   of a thousand replies (default 0)\n"
     "  --seed N         of the faults (default 1)\n"
     "  --idle N         end after N seconds without a byte (default 10)\n"
-    "Ends with status 0 when communication was stopped, 1 when the line was idle or is gone, 2 for bad options or files.\n";
+    "  --list           write what the store holds, in the form of download's --answers, and end\n"
+    "Ends with status 0 half a second after communication was stopped, unless it is started again, 1 when the line was idle or is gone,\n"
+    "2 for bad options or files.\n";
 
 /* The rates of link control, 1 to 5. */
 static const unsigned long bauds[] = {0, 9600, 19200, 38400, 57600, 115200};
@@ -30,7 +34,7 @@ static const unsigned long bauds[] = {0, 9600, 19200, 38400, 57600, 115200};
 typedef struct {
     const char *store, *line, *pty, *parity;
     unsigned long kind, rate, lose, repeat, spoil, seed, idle, silence, delay, gap;
-    bool help;
+    bool list, help;
 } settings;
 
 static bool read_settings(int argc, char **argv, settings *s)
@@ -41,11 +45,12 @@ static bool read_settings(int argc, char **argv, settings *s)
         {"silence", NULL, &s->silence, 10000, NULL}, {"delay", NULL, &s->delay, 60000, NULL}, {"gap", NULL, &s->gap, 1000, NULL},
         {"lose", NULL, &s->lose, 1000, NULL},    {"repeat", NULL, &s->repeat, 1000, NULL}, {"spoil", NULL, &s->spoil, 1000, NULL},
         {"seed", NULL, &s->seed, 0xFFFFFFFFUL, NULL}, {"idle", NULL, &s->idle, 86400, NULL}, {"help", NULL, NULL, 0, &s->help},
+        {"list", NULL, NULL, 0, &s->list},
     };
     if (!options_read(argc, argv, options, sizeof options / sizeof *options, 0)) return false;
     if (s->help) return true;
-    if (!s->store || !s->line == !s->pty) {
-        fputs("--store and one of --line and --pty are needed; --help says more\n", stderr);
+    if (!s->store || !!s->line + !!s->pty + s->list != 1) {
+        fputs("--store and one of --line, --pty and --list are needed; --help says more\n", stderr);
         return false;
     }
     if (s->lose + s->repeat + s->spoil > 1000) {
@@ -55,13 +60,23 @@ static bool read_settings(int argc, char **argv, settings *s)
     return true;
 }
 
+/* What a checked store holds, as 00,31,32@86400: the status. */
+static int list(const uint8_t *store, size_t store_len)
+{
+    size_t count = tacho_store_count(store, store_len).count;
+    for (size_t k = 0; k < count; k++) {
+        tacho_held h = tacho_store_answer(store, store_len, k);
+        printf(h.day ? "%s%02X@%lu" : "%s%02X", k ? "," : "", h.trep, (unsigned long)h.day);
+    }
+    return putchar('\n') < 0 || fflush(stdout) ? 2 : 0;
+}
+
 static bool open_line(line *l, const settings *s)
 {
     char path[128];
     if (s->line) return line_open(l, s->line, &(line_port){s->rate ? s->rate : bauds[1], s->parity});
     if (!line_make(l, path, sizeof path)) return false;
-    size_t n = 0;
-    while (path[n]) n++;
+    size_t n = strlen(path);
     path[n] = '\n';
     return file_write(s->pty, (const unsigned char *)path, n + 1);
 }
@@ -88,18 +103,19 @@ static int serve(line *l, uint8_t *state, const uint8_t *store, size_t store_len
         else if (phase != TACHO_PHASE_CLOSED) stopped = true;
     }
     printf("unit: %lu strings heard; of its replies %u lost, %u repeated, %u spoiled\n", heard, l->lost, l->repeated, l->spoiled);
+    if (stopped) return 0;
     if (n < 0) fputs("unit: the line is gone\n", stderr);
-    else if (!stopped) fprintf(stderr, "unit: the line was idle for %lu seconds\n", s->idle);
-    return stopped ? 0 : 1;
+    else fprintf(stderr, "unit: the line was idle for %lu seconds\n", s->idle);
+    return 1;
 }
 
 int main(int argc, char **argv)
 {
-    settings s = {.parity = "even", .kind = 2, .seed = 1, .idle = 10, .silence = 20, .delay = 20};
+    settings s = {.parity = "even", .kind = 2, .seed = 1, .idle = 10, .silence = 25, .delay = 20};
     size_t store_len;
     uint8_t state[TACHO_UNIT_STATE];
     if (!read_settings(argc, argv, &s)) return 2;
-    if (s.help) return fputs(help, stdout) < 0;
+    if (s.help) return help_said(help);
     uint8_t *store = file_read(s.store, 1 << 20, &store_len);
     if (!store) return 2;
     uint8_t number = tacho_store_check(store, store_len);
@@ -108,6 +124,11 @@ int main(int argc, char **argv)
         fprintf(stderr, "%s: %s (%u)\n", s.store, tacho_number_text(number), number);
         free(store);
         return 2;
+    }
+    if (s.list) {
+        int status = list(store, store_len);
+        free(store);
+        return status;
     }
     line l = {.fd = -1, .other = -1, .random = s.seed * 2 + 1};
     l.faults = (line_faults){(unsigned)s.lose, (unsigned)s.repeat, (unsigned)s.spoil};

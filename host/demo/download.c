@@ -17,18 +17,22 @@ static const char help[] =
     "  --answers LIST   what to ask for, in this order: TREPs in hexadecimal, activities with their day in seconds since 1970,\n"
     "                   as 00,31,32@86400,33,24,35\n"
     "  --out FILE       where the stream goes when all was downloaded: each answer as 76, TREP, data, back to back (DDP_034)\n"
-    "  --wait N         milliseconds until a reply begins (P2, at most 1,000; default 1000)\n"
-    "  --silence N      so many milliseconds without a byte end a string (P1; default 20)\n"
+    "  --wait N         milliseconds until a reply begins (P2, at most 1,000; default 1000); 5,000 behind 'response pending' (P3)\n"
+    "  --silence N      so many milliseconds without a byte end a string (P1 is at most 20; default 25: a byte takes over 1 by itself,\n"
+    "                   and some adapters hand bytes on late)\n"
     "  --rest N         milliseconds from a reply to the next request (P3, at least 10; default 10)\n"
     "  --gap N          milliseconds between the bytes of a request (P4, 5 to 20; default 5)\n"
-    "  --tries N        how often a request that got no answer is begun again (default 3)\n"
+    "  --tries N        how often a request is begun, each with three sendings (DDP_027; default 1)\n"
     "  --lose N --repeat N --spoil N   of a thousand frames (default 0)\n"
     "  --seed N         of the faults (default 2)\n"
     "Ends with status 0 when all was downloaded, 1 when the unit refused or did not answer or the line is gone, 2 for bad options or files.\n";
 
+/* The wait for a reply behind "response pending": P2 is then as long as P3 may be (DDP_019). */
+enum { PENDING_MS = 5000 };
+
 static line l = {.fd = -1, .other = -1};
 static uint8_t state[TACHO_TOOL_STATE], room[TACHO_ANSWER_MOST];
-static unsigned long wait_ms = 1000, tries = 3;
+static unsigned long wait_ms = 1000, tries = 1;
 
 static size_t held(void)
 {
@@ -51,16 +55,28 @@ static void progress(const char *what, bool end)
     }
 }
 
+/* Whether the unit says that it has heard the request and its response is pending. */
+static bool is_pending(const uint8_t *string, size_t len)
+{
+    tacho_part data = tacho_frame_data(string, len, true);
+    return data.number == TACHO_OK && data.len == 3 && string[data.start] == 0x7F && string[data.start + 2] == 0x78;
+}
+
 /* One request to its end; false with a message where the line is gone or a call was refused. */
 static bool run(uint8_t request, uint8_t trep, uint32_t day, const char *what)
 {
     uint8_t out[TACHO_FRAME_MOST], string[LINE_STRING_MOST];
+    long end = 0;
     tacho_written w = tacho_tool_begin(state, sizeof state, request, trep, day, out, sizeof out);
     while (w.number == TACHO_OK) {
         if (!line_send(&l, out, w.len)) break;
         if (outcome() != TACHO_OUTCOME_WAITING) return true;
-        int n = line_receive(&l, string, sizeof string, wait_ms, true);
+        /* the wait counts from the last sending: frames that the tool ignores do not make it longer */
+        if (w.len > 0) end = line_now() + (long)wait_ms;
+        long left = end - line_now();
+        int n = left > 0 ? line_receive(&l, string, sizeof string, (unsigned long)left, true) : 0;
         if (n < 0) break;
+        if (n > 0 && is_pending(string, (size_t)n) && end < line_now() + PENDING_MS) end = line_now() + PENDING_MS;
         if (n > 0) w = tacho_tool_arrived(state, sizeof state, string, (size_t)n, room, sizeof room, out, sizeof out);
         else w = tacho_tool_wait_ended(state, sizeof state, room, sizeof room, out, sizeof out);
         progress(what, outcome() != TACHO_OUTCOME_WAITING);
@@ -74,14 +90,18 @@ static bool run(uint8_t request, uint8_t trep, uint32_t day, const char *what)
 static bool ask(uint8_t request, uint8_t trep, uint32_t day, const char *what)
 {
     uint8_t late[LINE_STRING_MOST];
-    for (unsigned long i = 0; i == 0 || (i < tries && outcome() == TACHO_OUTCOME_NO_ANSWER); i++) {
-        /* a request is begun on an empty line: what is still on its way is let pass */
-        while (i > 0 && line_receive(&l, late, sizeof late, wait_ms, true) > 0) continue;
+    unsigned long begun = 0;
+    do {
+        /* a request is begun again on an empty line: what is still on its way is let pass, for the time of one wait */
+        long end = line_now() + (long)wait_ms;
+        for (long left; begun > 0 && (left = end - line_now()) > 0;)
+            if (line_receive(&l, late, sizeof late, (unsigned long)left, true) <= 0) break;
         if (!run(request, trep, day, what)) return false;
-    }
+        begun++;
+    } while (begun < tries && outcome() == TACHO_OUTCOME_NO_ANSWER);
     switch (outcome()) {
     case TACHO_OUTCOME_DONE: return true;
-    case TACHO_OUTCOME_NO_ANSWER: fprintf(stderr, "%s: no answer after %lu times three sendings\n", what, tries); break;
+    case TACHO_OUTCOME_NO_ANSWER: fprintf(stderr, "%s: no answer after %lu sendings\n", what, begun * 3); break;
     case TACHO_OUTCOME_NO_ROOM: fprintf(stderr, "%s: the answer does not fit %d bytes\n", what, TACHO_ANSWER_MOST); break;
     case TACHO_OUTCOME_REFUSED: {
         uint8_t code = (uint8_t)tacho_tool_code(state, sizeof state);
@@ -93,7 +113,7 @@ static bool ask(uint8_t request, uint8_t trep, uint32_t day, const char *what)
     return false;
 }
 
-/* The next answer of the list: false where it is malformed. */
+/* The next answer of the list: false where it is malformed, as by a comma behind the last one. */
 static bool next_answer(const char **list, uint8_t *trep, uint32_t *day)
 {
     char *end;
@@ -104,10 +124,31 @@ static bool next_answer(const char **list, uint8_t *trep, uint32_t *day)
         d = strtoul(from, &end, 10);
         if (end == from || d > 0xFFFFFFFFUL) return false;
     }
-    if (*end != ',' && *end != 0) return false;
+    if (*end != 0 && (*end != ',' || end[1] == 0)) return false;
     *trep = (uint8_t)t;
     *day = (uint32_t)d;
     *list = *end ? end + 1 : end;
+    return true;
+}
+
+/* Whether the list is one, and the table has all that it asks for; false with a message. */
+static bool check_answers(const char *answers)
+{
+    uint8_t out[TACHO_FRAME_MOST], trep = 0;
+    uint32_t day = 0;
+    do {
+        const char *from = answers;
+        if (!next_answer(&answers, &trep, &day)) {
+            fprintf(stderr, "--answers: '%s' is no list of TREPs\n", from);
+            return false;
+        }
+        tacho_tool_fresh(state, sizeof state);
+        tacho_written w = tacho_tool_begin(state, sizeof state, TACHO_REQUEST_TRANSFER, trep, day, out, sizeof out);
+        if (w.number) {
+            fprintf(stderr, "--answers: '%.*s': %s (%u)\n", (int)strcspn(from, ","), from, tacho_number_text(w.number), w.number);
+            return false;
+        }
+    } while (*answers);
     return true;
 }
 
@@ -128,11 +169,26 @@ static bool keep(const uint8_t *bytes, size_t len)
     return true;
 }
 
+/* Closes the session. A unit that has stopped is silent, so a lost reply cannot be told from a dead line. */
+static void stop(void)
+{
+    if (!run(TACHO_REQUEST_STOP, 0, 0, "stop communication") || outcome() != TACHO_OUTCOME_DONE)
+        fputs("stop communication: not confirmed by the unit\n", stderr);
+}
+
+/* The same as ask, for what a session is open for: a unit that still speaks is told of the end. */
+static bool ask_or_stop(uint8_t request, uint8_t trep, uint32_t day, const char *what)
+{
+    if (ask(request, trep, day, what)) return true;
+    if (outcome() == TACHO_OUTCOME_REFUSED || outcome() == TACHO_OUTCOME_NO_ROOM) stop();
+    return false;
+}
+
 static int download(const char *answers)
 {
     unsigned count = 0;
-    if (!ask(TACHO_REQUEST_START, 0, 0, "start communication") || !ask(TACHO_REQUEST_SESSION, 0, 0, "diagnostic session")
-        || !ask(TACHO_REQUEST_UPLOAD, 0, 0, "request upload"))
+    if (!ask(TACHO_REQUEST_START, 0, 0, "start communication") || !ask_or_stop(TACHO_REQUEST_SESSION, 0, 0, "diagnostic session")
+        || !ask_or_stop(TACHO_REQUEST_UPLOAD, 0, 0, "request upload"))
         return 1;
     while (*answers) {
         char what[64];
@@ -140,15 +196,13 @@ static int download(const char *answers)
         uint32_t day = 0;
         next_answer(&answers, &trep, &day);
         snprintf(what, sizeof what, day ? "%s %02X, day %u" : "%s %02X", tacho_type_text(trep), trep, (unsigned)day);
-        if (!ask(TACHO_REQUEST_TRANSFER, trep, day, what)) return 1;
+        if (!ask_or_stop(TACHO_REQUEST_TRANSFER, trep, day, what)) return 1;
         if (!keep(room, held())) return 2;
         printf("  %-40s %8zu bytes\n", what, held());
         count++;
     }
-    if (!ask(TACHO_REQUEST_EXIT, 0, 0, "transfer exit")) return 1;
-    /* a unit that has stopped is silent, so a lost reply cannot be told from a dead line: everything is downloaded by then */
-    if (!run(TACHO_REQUEST_STOP, 0, 0, "stop communication") || outcome() != TACHO_OUTCOME_DONE)
-        fputs("stop communication: not confirmed by the unit\n", stderr);
+    if (!ask_or_stop(TACHO_REQUEST_EXIT, 0, 0, "transfer exit")) return 1;
+    stop();
     printf("tool: %u answers, %zu bytes; of its frames %u lost, %u repeated, %u spoiled\n", count, stream_len, l.lost, l.repeated, l.spoiled);
     return 0;
 }
@@ -157,7 +211,7 @@ int main(int argc, char **argv)
 {
     const char *line_path = NULL, *answers = NULL, *out_path = NULL, *parity = "even";
     unsigned long rate = 9600, lose = 0, repeat = 0, spoil = 0, seed = 2;
-    line_times times = {20, 5, 10};
+    line_times times = {25, 5, 10};
     bool wants_help = false;
     const program_option options[] = {
         {"line", &line_path, NULL, 0, NULL},   {"answers", &answers, NULL, 0, NULL},         {"out", &out_path, NULL, 0, NULL},
@@ -167,7 +221,7 @@ int main(int argc, char **argv)
         {"spoil", NULL, &spoil, 1000, NULL},   {"seed", NULL, &seed, 0xFFFFFFFFUL, NULL},    {"help", NULL, NULL, 0, &wants_help},
     };
     if (!options_read(argc, argv, options, sizeof options / sizeof *options, 0)) return 2;
-    if (wants_help) return fputs(help, stdout) < 0;
+    if (wants_help) return help_said(help);
     if (!line_path || !answers || !out_path) {
         fputs("--line, --answers and --out are needed; --help says more\n", stderr);
         return 2;
@@ -176,15 +230,7 @@ int main(int argc, char **argv)
         fputs("--lose, --repeat and --spoil are more than a thousand together\n", stderr);
         return 2;
     }
-    for (const char *rest = answers; *rest;) {
-        const char *bad = rest;
-        uint8_t trep;
-        uint32_t day;
-        if (!next_answer(&rest, &trep, &day)) {
-            fprintf(stderr, "--answers: '%s' is no list of TREPs\n", bad);
-            return 2;
-        }
-    }
+    if (!check_answers(answers) || !file_may_be_written(out_path)) return 2;
     l.faults = (line_faults){(unsigned)lose, (unsigned)repeat, (unsigned)spoil};
     l.times = times;
     l.random = seed * 2 + 1;

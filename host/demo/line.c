@@ -43,6 +43,9 @@ static bool set_up(int fd, const line_port *port)
     cfmakeraw(&t);
     t.c_cflag &= ~(tcflag_t)(CSTOPB | PARENB | PARODD | CRTSCTS);
     t.c_cflag |= CLOCAL | CREAD;
+    /* a byte with a wrong parity or stop bit reads as 00, and its string is refused (DDP_022, DDP_025) */
+    t.c_iflag &= ~(tcflag_t)IGNPAR;
+    t.c_iflag |= INPCK;
     if (strcmp(port->parity, "none") && !is_pseudo(fd)) t.c_cflag |= PARENB | (strcmp(port->parity, "odd") ? 0 : PARODD);
     cfsetispeed(&t, speed);
     cfsetospeed(&t, speed);
@@ -67,8 +70,10 @@ bool line_open(line *l, const char *path, const line_port *port)
     }
     if (!set_up(l->fd, port)) {
         fprintf(stderr, "%s: not a serial port or pseudo-terminal, or not one that can be set up so\n", path);
+        close(l->fd);
         return false;
     }
+    tcflush(l->fd, TCIFLUSH); /* what came before belongs to nobody here */
     return true;
 }
 
@@ -124,13 +129,20 @@ static bool put_all(line *l, const uint8_t *bytes, size_t len)
     return true;
 }
 
+/* Until all has gone: P4 counts from the end of a byte, P2 from the end of a request. */
+static void drain(line *l)
+{
+    while (tcdrain(l->fd) && errno == EINTR) continue;
+}
+
 static bool put(line *l, const uint8_t *bytes, size_t len)
 {
     if (l->times.rest) pause_ms(l->times.rest);
-    if (!l->times.gap) return put_all(l, bytes, len);
-    for (size_t i = 0; i < len; i++) {
+    size_t n = l->times.gap ? 1 : len;
+    for (size_t i = 0; i < len; i += n) {
         if (i) pause_ms(l->times.gap);
-        if (!put_all(l, bytes + i, 1)) return false;
+        if (!put_all(l, bytes + i, n)) return false;
+        drain(l);
     }
     return true;
 }
@@ -199,7 +211,7 @@ static int hand_out(line *l, uint8_t *out, size_t out_len, size_t n)
     return (int)copied;
 }
 
-static long now_ms(void)
+long line_now(void)
 {
     struct timespec t;
     clock_gettime(CLOCK_MONOTONIC, &t);
@@ -218,11 +230,11 @@ static size_t ready_length(const line *l, bool quiet, bool at_tool)
 
 int line_receive(line *l, uint8_t *out, size_t out_len, unsigned long milliseconds, bool at_tool)
 {
-    long end = now_ms() + (long)milliseconds;
+    long end = line_now() + (long)milliseconds;
     for (bool quiet = false;;) {
         size_t n = ready_length(l, quiet, at_tool);
         if (n) return hand_out(l, out, out_len, n);
-        long left = l->count ? (long)l->times.silence : end - now_ms();
+        long left = l->count ? (long)l->times.silence : end - line_now();
         struct pollfd p = {l->fd, POLLIN, 0};
         int ready = poll(&p, 1, left < 0 ? 0 : (int)left);
         if (ready < 0 && errno != EINTR) return -1;

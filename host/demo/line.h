@@ -12,7 +12,7 @@ typedef struct { unsigned lose, repeat, spoil; } line_faults;
 
 /* Times in milliseconds (DDP_019). */
 typedef struct {
-    unsigned long silence; /* so long without a byte ends a string: P1 and P4, at most 20 */
+    unsigned long silence; /* so long without a byte ends a string: over P1 and P4, which are at most 20 */
     unsigned long gap;     /* between the bytes of a string put out: P4, 5 to 20 for a tool; P1, 0 to 20 for a unit */
     unsigned long rest;    /* before a string is put out: P3, 10 or more for a tool; P2, 20 to 1,000 for a unit */
 } line_times;
@@ -41,10 +41,13 @@ bool line_open(line *l, const char *path, const line_port *port);
 /* Makes a pseudo-terminal; its other end is opened by the path handed back. */
 bool line_make(line *l, char *path, size_t path_len);
 
+/* Milliseconds of a clock that only goes forward. */
+long line_now(void);
+
 /* Sets the port to another baud rate once all that was put out has gone. False where the port has no such rate. */
 bool line_set_baud(line *l, unsigned long baud);
 
-/* Puts a frame on the line, with the faults asked for. False where the line is gone. */
+/* Puts a frame on the line, with the faults asked for, and comes back when its last byte has gone. False where the line is gone. */
 bool line_send(line *l, const uint8_t *frame, size_t len);
 
 /* Waits so many milliseconds for a string to begin, then for its end: a whole good frame at once, else whatever came before a silence. A

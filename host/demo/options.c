@@ -6,6 +6,7 @@
 #include <stdio.h>
 #include <stdlib.h>
 #include <string.h>
+#include <sys/stat.h>
 
 enum { OPTIONS_MOST = 24 };
 
@@ -48,6 +49,10 @@ bool options_read(int argc, char **argv, const program_option *options, size_t c
         fprintf(stderr, "%s: '%s' is not expected; --help lists the options\n", argv[0], argv[optind + words]);
         return false;
     }
+    if (argc - optind < words) {
+        fprintf(stderr, "%s: a word is missing; --help says which\n", argv[0]);
+        return false;
+    }
     return true;
 }
 
@@ -71,18 +76,44 @@ unsigned char *file_read(const char *path, size_t most, size_t *len)
     return bytes;
 }
 
+int help_said(const char *help)
+{
+    return fputs(help, stdout) < 0 || fflush(stdout) ? 2 : 0;
+}
+
+/* Where the bytes for the path go first: beside it, or to the path itself where it is a device, a pipe or a link. NULL without memory. */
+static char *place_for(const char *path, bool *beside)
+{
+    struct stat s;
+    char *place = NULL;
+    *beside = lstat(path, &s) != 0 || S_ISREG(s.st_mode);
+    return asprintf(&place, "%s%s", path, *beside ? ".part" : "") < 0 ? NULL : place;
+}
+
+bool file_may_be_written(const char *path)
+{
+    bool beside, good = false;
+    char *place = place_for(path, &beside);
+    FILE *f = place ? fopen(place, "ab") : NULL;
+    if (f) good = fclose(f) == 0 && (!beside || remove(place) == 0);
+    if (!good) fprintf(stderr, "%s: %s\n", path, strerror(errno));
+    free(place);
+    return good;
+}
+
 bool file_write(const char *path, const unsigned char *bytes, size_t len)
 {
-    char *beside = NULL;
-    if (asprintf(&beside, "%s.part", path) < 0) return false;
-    FILE *f = fopen(beside, "wb");
-    bool good = f && fwrite(bytes, 1, len, f) == len;
+    bool beside;
+    char *place = place_for(path, &beside);
+    FILE *f = place ? fopen(place, "wb") : NULL;
+    bool good = f && (len == 0 || fwrite(bytes, 1, len, f) == len) && fflush(f) == 0;
+    int why = errno;
     if (f && fclose(f)) good = false;
-    if (good && rename(beside, path)) good = false;
+    if (good && beside && rename(place, path)) good = false, why = errno;
     if (!good) {
-        fprintf(stderr, "%s: %s\n", path, strerror(errno));
-        if (f) remove(beside);
+        fprintf(stderr, "%s: %s\n", path, strerror(why));
+        if (f && beside) remove(place);
     }
-    free(beside);
+    free(place);
     return good;
 }

@@ -14,13 +14,20 @@ typedef struct {
 } program_option;
 
 /* Reads the options with getopt_long. False with a message on standard error where one is unknown, lacks its value or has a bad one, and
- * where a word is left that is no option; `words` is how many of those are wanted, and they stand last in argv then. */
+ * where not as many words are left as wanted (`words`); they stand last in argv then. True at once at --help. */
 bool options_read(int argc, char **argv, const program_option *options, size_t count, int words);
+
+/* Puts the help out: the status. */
+int help_said(const char *help);
 
 /* The whole file; NULL with a message on standard error. Longer than `most` is an error too. */
 unsigned char *file_read(const char *path, size_t most, size_t *len);
 
-/* Writes the bytes to a file beside the path and renames it, so that the path never has half a file. False with a message. */
+/* Whether a file can be written there, asked before the work is done that fills it. False with a message. */
+bool file_may_be_written(const char *path);
+
+/* Writes the bytes to a file beside the path and renames it, so that the path never has half a file; a device, a pipe or a link is
+ * written itself. False with a message. */
 bool file_write(const char *path, const unsigned char *bytes, size_t len);
 
 #endif

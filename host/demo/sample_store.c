@@ -14,10 +14,7 @@ int main(int argc, char **argv)
     static const char help[] = "sample_store FILE: writes a sample bench store\n";
     bool wants_help = false;
     if (!options_read(argc, argv, &(program_option){"help", NULL, NULL, 0, &wants_help}, 1, 1)) return 2;
-    if (wants_help || argc != 2) {
-        fputs(help, wants_help ? stdout : stderr);
-        return wants_help ? 0 : 2;
-    }
+    if (wants_help) return help_said(help);
     size_t len = 4;
     for (size_t i = 0; i < sizeof answers / sizeof *answers; i++) {
         answer[0] = 0x76;
@@ -30,5 +27,5 @@ int main(int argc, char **argv)
         }
         len = w.len;
     }
-    return file_write(argv[1], store, len) ? 0 : 2;
+    return file_write(argv[argc - 1], store, len) ? 0 : 2;
 }

@@ -92,11 +92,11 @@ static void broken_then_good(const char *what, size_t at, uint8_t value)
 
 int main(void)
 {
-    l = (line){.fd = -1, .other = -1, .times = {20, 0, 0}};
+    l = (line){.fd = -1, .other = -1, .times = {25, 0, 0}};
     if (!line_make(&l, path, sizeof path)) return 1;
     make_frames();
     one("a frame in 260 reads", (script){full, full_len, 1, 2, 0});
-    one("a frame in clumps with gaps of 15 ms", (script){full, full_len, 37, 15, 0});
+    one("a frame in clumps with gaps of 20 ms", (script){full, full_len, 37, 20, 0});
     one("a reply after 900 ms", (script){reply, reply_len, reply_len, 0, 900});
     memcpy(bytes, reply, reply_len);
     memcpy(bytes + reply_len, full, full_len);

@@ -1,6 +1,6 @@
 /*
  * The other end as a real one is: a plain C unit or tool (host/tests/reference) that puts its bytes out singly or in clumps, with gaps of up
- * to 15 ms, and answers after 20 to 60 ms, once after 900 ms.
+ * to 15 ms, and answers after 20 to 60 ms, once after 900 ms. The unit says once that its response is pending, and takes 1,500 ms then.
  *
  *   slow_peer unit FILE STORE      makes a pseudo-terminal, writes the path of its other end to FILE, answers until communication is stopped
  *   slow_peer tool LINE TREP..     noise first, then start, session, upload, each transfer, exit and stop; prints the bytes of each answer
@@ -52,8 +52,20 @@ static size_t get(uint8_t *frame)
     }
 }
 
+/* Response pending: nothing may come from the tool until the response. */
+static void pend(void)
+{
+    uint8_t frame[16];
+    size_t n = ref_frame_write((const uint8_t[]){0x7F, 0x36, 0x78}, 3, true, frame, sizeof frame).len;
+    put(frame, n);
+    if (poll(&(struct pollfd){fd, POLLIN, 0}, 1, 1500) == 0) return;
+    fputs("slow unit: the tool did not wait for a pending response\n", stderr);
+    exit(1);
+}
+
 static int unit(const char *store_path)
 {
+    bool pended = false;
     static uint8_t frame[300];
     uint8_t state[TACHO_UNIT_STATE], reply[TACHO_FRAME_MOST];
     size_t store_len, n;
@@ -62,6 +74,10 @@ static int unit(const char *store_path)
     while ((n = get(frame)) > 0) {
         tacho_written w = ref_unit_step(state, sizeof state, store, store_len, frame, n, reply, sizeof reply);
         if (w.number) break;
+        if (!pended && w.len && reply[4] == 0x76) {
+            pend();
+            pended = true;
+        }
         put(reply, w.len);
         if (ref_unit_phase(state, sizeof state) == TACHO_PHASE_CLOSED) break;
     }
