@@ -25,7 +25,7 @@ use Rattle.services.specs.State.{isGranted}
 use Rattle.unit.specs.State as unitStates
 use Rattle.arrival.specs.declared.Request.the-variants as requests
 use Rattle.arrival.specs.declared.Outcome.{Outcome}
-use Rattle.arrival.specs.declared.Outcome.the-variants.{Waiting, Done, NoAnswer}
+use Rattle.arrival.specs.declared.Outcome.the-variants.{Fresh, Waiting, Done, NoAnswer}
 use Rattle.arrival.specs.declared.ToolState.{ToolState}
 use Rattle.tool.specs.Call.{beginNumber}
 use Rattle.line.specs.Line.{Event}
@@ -93,12 +93,12 @@ module _ (given : Premises) where
   heldWith zero = []
   heldWith (suc p) = 0x76 ∷ given .name .trep ∷ dataUpTo (suc p)
 
--- "Held off" never comes, since no unit asks for time
+-- "held off" never comes (neverHeldOff below), since no unit asks for time: it is no outcome of a tool that began
 abbrev pub outcomeOf : books.Outcome → Outcome
 outcomeOf books.waiting = Waiting
 outcomeOf books.done = Done
 outcomeOf books.noAnswer = NoAnswer
-outcomeOf books.heldOff = NoAnswer
+outcomeOf books.heldOff = Fresh
 
 module _ (a : Addresses) (given : Premises) where
   -- "the answer's frames 1 to q, split as above"; no unit asks for time. An event's output has 260 bytes or more; a
