@@ -25,6 +25,7 @@ static const char help[] =
     "  --seed N         of the faults (default 1)\n"
     "  --idle N         end after N seconds without a byte (default 10)\n"
     "  --list           write what the store holds, in the form of download's --answers, and end\n"
+    "  --stream FILE    write the store's stream to the file, each answer as 76, TREP, data, back to back (DDP_034), and end\n"
     "Ends with status 0 half a second after communication was stopped, unless it is started again, 1 when the line was idle or is gone,\n"
     "2 for bad options or files.\n";
 
@@ -32,7 +33,7 @@ static const char help[] =
 static const unsigned long bauds[] = {0, 9600, 19200, 38400, 57600, 115200};
 
 typedef struct {
-    const char *store, *line, *pty, *parity;
+    const char *store, *line, *pty, *stream, *parity;
     unsigned long kind, rate, lose, repeat, spoil, seed, idle, silence, delay, gap;
     bool list, help;
 } settings;
@@ -45,12 +46,12 @@ static bool read_settings(int argc, char **argv, settings *s)
         {"silence", NULL, &s->silence, 10000, NULL}, {"delay", NULL, &s->delay, 60000, NULL}, {"gap", NULL, &s->gap, 1000, NULL},
         {"lose", NULL, &s->lose, 1000, NULL},    {"repeat", NULL, &s->repeat, 1000, NULL}, {"spoil", NULL, &s->spoil, 1000, NULL},
         {"seed", NULL, &s->seed, 0xFFFFFFFFUL, NULL}, {"idle", NULL, &s->idle, 86400, NULL}, {"help", NULL, NULL, 0, &s->help},
-        {"list", NULL, NULL, 0, &s->list},
+        {"list", NULL, NULL, 0, &s->list},      {"stream", &s->stream, NULL, 0, NULL},
     };
     if (!options_read(argc, argv, options, sizeof options / sizeof *options, 0)) return false;
     if (s->help) return true;
-    if (!s->store || !!s->line + !!s->pty + s->list != 1) {
-        fputs("--store and one of --line, --pty and --list are needed; --help says more\n", stderr);
+    if (!s->store || !!s->line + !!s->pty + !!s->stream + s->list != 1) {
+        fputs("--store and one of --line, --pty, --list and --stream are needed; --help says more\n", stderr);
         return false;
     }
     if (s->lose + s->repeat + s->spoil > 1000) {
@@ -69,6 +70,12 @@ static int list(const uint8_t *store, size_t store_len)
         printf(h.day ? "%s%02X@%lu" : "%s%02X", k ? "," : "", h.trep, (unsigned long)h.day);
     }
     return putchar('\n') < 0 || fflush(stdout) ? 2 : 0;
+}
+
+static int write_stream(const char *path, const uint8_t *store, size_t store_len)
+{
+    tacho_part stream = tacho_store_stream(store, store_len);
+    return file_write(path, store + stream.start, stream.len) ? 0 : 2;
 }
 
 static bool open_line(line *l, const settings *s)
@@ -125,8 +132,8 @@ int main(int argc, char **argv)
         free(store);
         return 2;
     }
-    if (s.list) {
-        int status = list(store, store_len);
+    if (s.list || s.stream) {
+        int status = s.list ? list(store, store_len) : write_stream(s.stream, store, store_len);
         free(store);
         return status;
     }

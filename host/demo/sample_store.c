@@ -15,7 +15,7 @@ int main(int argc, char **argv)
     bool wants_help = false;
     if (!options_read(argc, argv, &(program_option){"help", NULL, NULL, 0, &wants_help}, 1, 1)) return 2;
     if (wants_help) return help_said(help);
-    size_t len = 4;
+    size_t len = 0;
     for (size_t i = 0; i < sizeof answers / sizeof *answers; i++) {
         answer[0] = 0x76;
         answer[1] = answers[i].trep;

@@ -3,6 +3,7 @@
  * to 15 ms, and answers after 20 to 60 ms, once after 900 ms. The unit says once that its response is pending, and takes 1,500 ms then.
  *
  *   slow_peer unit FILE STORE      makes a pseudo-terminal, writes the path of its other end to FILE, answers until communication is stopped
+ *   slow_peer rate FILE BAUD..     the same, as a tool that has the unit change its rate to 2, 3 and so on: the port must have these rates
  *   slow_peer tool LINE TREP..     noise first, then start, session, upload, each transfer, exit and stop; prints the bytes of each answer
  */
 #define _GNU_SOURCE
@@ -18,7 +19,7 @@
 #include <time.h>
 #include <unistd.h>
 
-static int fd;
+static int fd, other;
 static unsigned turn;
 
 static void pause_ms(long n)
@@ -121,12 +122,60 @@ static int tool(int count, char **treps)
     return 0;
 }
 
+/* Sends data to the unit and wants a reply that begins with this SID. */
+static bool replied(const uint8_t *data, size_t len, uint8_t sid)
+{
+    static uint8_t frame[300];
+    size_t n = ref_frame_write(data, len, false, frame, sizeof frame).len;
+    put(frame, n);
+    return get(frame) > 4 && frame[4] == sid;
+}
+
+/* The rate that the unit's end of the line has, once it had time to set it. */
+static bool is_set(const char *baud)
+{
+    static const struct { const char *baud; speed_t speed; } known[] = {
+        {"9600", B9600}, {"19200", B19200}, {"38400", B38400}, {"57600", B57600}, {"115200", B115200},
+    };
+    struct termios t;
+    pause_ms(200);
+    if (tcgetattr(other, &t)) return false;
+    for (size_t i = 0; i < sizeof known / sizeof *known; i++)
+        if (strcmp(known[i].baud, baud) == 0 && cfgetospeed(&t) == known[i].speed) return true;
+    fprintf(stderr, "the port is not at %s baud\n", baud);
+    return false;
+}
+
+static int rate(int count, char **rates)
+{
+    static uint8_t frame[300];
+    const uint8_t start[] = {0x81, 0xEE, 0xF0, 0x81, 0xE0};
+    size_t heard = 0;
+    pause_ms(300); /* what comes before the unit has opened its port is dropped, so the start is sent up to three times */
+    for (int i = 0; i < 3 && heard == 0; i++) {
+        put(start, sizeof start);
+        heard = get(frame);
+    }
+    if (heard == 0 || !is_set("9600") || !replied((const uint8_t[]){0x10, 0x81}, 2, 0x50)) return 1;
+    for (int i = 0; i < count; i++) {
+        uint8_t verify[] = {0x87, 0x01, 0x01, (uint8_t)(2 + i)}, set[] = {0x87, 0x02, 0x03};
+        uint8_t out[16];
+        if (!replied(verify, sizeof verify, 0xC7)) return 1;
+        put(out, ref_frame_write(set, sizeof set, false, out, sizeof out).len);
+        if (!is_set(rates[i])) return 1;
+    }
+    if (!replied((const uint8_t[]){0x82}, 1, 0xC2)) return 1;
+    puts("the port had every rate");
+    return 0;
+}
+
 /* A pseudo-terminal whose other end is kept open here too. */
 static bool make_line(const char *file)
 {
     char path[128];
     fd = posix_openpt(O_RDWR | O_NOCTTY);
-    if (fd < 0 || grantpt(fd) || unlockpt(fd) || ptsname_r(fd, path, sizeof path - 1) || open(path, O_RDWR | O_NOCTTY) < 0) return false;
+    if (fd < 0 || grantpt(fd) || unlockpt(fd) || ptsname_r(fd, path, sizeof path - 1)) return false;
+    if ((other = open(path, O_RDWR | O_NOCTTY)) < 0) return false;
     strcat(path, "\n");
     return file_write(file, (const unsigned char *)path, strlen(path));
 }
@@ -134,11 +183,12 @@ static bool make_line(const char *file)
 int main(int argc, char **argv)
 {
     struct termios t;
-    bool is_unit = argc > 1 && strcmp(argv[1], "unit") == 0;
     if (argc < 4) return 2;
-    if (is_unit ? !make_line(argv[2]) : (fd = open(argv[2], O_RDWR | O_NOCTTY)) < 0) return 2;
+    bool is_unit = strcmp(argv[1], "unit") == 0, is_rate = strcmp(argv[1], "rate") == 0;
+    if (is_unit || is_rate ? !make_line(argv[2]) : (fd = open(argv[2], O_RDWR | O_NOCTTY)) < 0) return 2;
     if (tcgetattr(fd, &t)) return 2;
     cfmakeraw(&t);
     tcsetattr(fd, TCSANOW, &t);
-    return is_unit ? unit(argv[3]) : tool(argc - 3, argv + 3);
+    if (is_unit) return unit(argv[3]);
+    return is_rate ? rate(argc - 3, argv + 3) : tool(argc - 3, argv + 3);
 }
