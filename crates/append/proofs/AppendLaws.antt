@@ -217,7 +217,8 @@ module _ (f : Form) (a : List ℕ) (day : ℕ) (s : List ℕ) (n t b k : ℕ) (e
   marked =
       let h = fits in
       let q = start in
-      rw (f₁, take-append-le mark (take (b + k) s) (slice b (b + t) s ++ drop (b + t + k) s) (simp length-take (omega arith))) (take-take mark (b + k) s (omega arith))
+      rw (f₁, take-append-le mark (take (b + k) s) (slice b (b + t) s ++ drop (b + t + k) s) (simp length-take (omega arith)))
+      (take-take mark (b + k) s (omega arith))
 
   entries : partAt (mark + (v + v)) (entriesSize f n) o₁ ≡ partAt (mark + (v + v)) (entriesSize f n) s
   entries =
@@ -304,7 +305,8 @@ module _ (f : Form) (a : List ℕ) (day : ℕ) (s : List ℕ) (n t b k : ℕ) (e
   unfolding header beforeEntry beforeAnswer fields entry withAnswer
   whole =
       rw (← header-size f, en, et, eb)
-      (regroup (take mark s) (bytesOf v (answers f s + 1)) (bytesOf v (streamLength f s + length a)) (partAt (headerSize f) (entriesSize f (answers f s)) s) (bytesOf 4 day)
+      (regroup (take mark s) (bytesOf v (answers f s + 1)) (bytesOf v (streamLength f s + length a))
+      (partAt (headerSize f) (entriesSize f (answers f s)) s) (bytesOf 4 day)
       (bytesOf v (streamLength f s)) (bytesOf v (length a)) (streamOf f s) a)
 
   pub last-is : (o : List ℕ) → o ≡ copied a (take (length o₃ - (b + t + k)) (drop (b + t + k) o₃))

@@ -28,7 +28,8 @@ use Rattle.append.proofs.Theorems.{appended}
 use Rattle.append.proofs.Refusals.{append-taken, over-bound}
 
 pub w12-taken : appendNumber narrow (0x76 ∷ 0x00 ∷ 0x02 ∷ 0x02 ∷ []) 0 (replicate 16 0) ≡ 0
-unfolding appendNumber answerNumber roomNumber storeNumber headerFits countsFit placesRight answersRight namesDiffer filledTo firstFrom headerSize entrySize entriesSize numberAt nameNumber dayNamed listed knownTo isActivities
+unfolding appendNumber answerNumber roomNumber storeNumber headerFits countsFit placesRight answersRight namesDiffer filledTo firstFrom headerSize
+    entrySize entriesSize numberAt nameNumber dayNamed listed knownTo isActivities
 w12-taken = refl
 
 pub w12 : appendOut narrow (0x76 ∷ 0x00 ∷ 0x02 ∷ 0x02 ∷ []) 0 (replicate 16 0) ≡ w12Bytes

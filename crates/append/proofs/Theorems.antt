@@ -50,7 +50,8 @@ module _ (f : Form) (sized : Sized f) (s : List ℕ) (z : storeNumber f s ≡ 0)
       let long : length (backToBack gs ++ g .answer) ≡ t + m = length-append (backToBack gs) (g .answer) in
       rw (formed .marked, entries-are f sized s z (formed .bytes) (formed .marked), reads .stream, reads .count, reads .total)
       (rw (many, more-back gs g, long, entries-append f 0 gs (g ∷ []), zero-add)
-      (regroup (f .mark) (bytesOf w (length gs + 1)) (bytesOf w (t + m)) (entriesFrom f 0 gs) (bytesOf 4 (g .day)) (bytesOf w t) (bytesOf w m) (backToBack gs) (g .answer)))
+      (regroup (f .mark) (bytesOf w (length gs + 1)) (bytesOf w (t + m)) (entriesFrom f 0 gs) (bytesOf 4 (g .day)) (bytesOf w t) (bytesOf w m)
+      (backToBack gs) (g .answer)))
 
 module _ (f : Form) (s : List ℕ) (z : storeNumber f s ≡ 0) where
   abbrev held : List Stored
@@ -150,7 +151,8 @@ module _ (f : Form) (sized : Sized f) (g : Stored) (s : List ℕ) (formed : OfFo
 
   pub append-form : OfForm f after
   append-form =
-      rw is (written-form f new rest (rw (← formed .marked) (bytes-part 0 (length (f .mark)) s (formed .bytes))) (bytes-drop (length (storeOf f new)) s (formed .bytes)) new-fit)
+      rw is (written-form f new rest (rw (← formed .marked) (bytes-part 0 (length (f .mark)) s (formed .bytes)))
+      (bytes-drop (length (storeOf f new)) s (formed .bytes)) new-fit)
 
   pub append-found : Found f g after
   append-found =
@@ -217,7 +219,8 @@ appends f sized gs s r formed z all =
       ofForm = l .ofForm;
       contents = l .contents;
       lookups = λ i h.
-          rw (getD-append-add old gs i nothing) at (found-at f r (l .unbroken) (old ++ gs) (l .contents) fit (length old + i) (omega (arith, length-append old gs)));
+          rw (getD-append-add old gs i nothing) at
+          (found-at f r (l .unbroken) (old ++ gs) (l .contents) fit (length old + i) (omega (arith, length-append old gs)));
       stream = stream-is f r (l .unbroken) ∙ ap backToBack (l .contents) ∙ back-append old gs
           ∙ ap (λ (x : List ℕ). x ++ backToBack gs) (sym (stream-is f s z));
     }

@@ -91,7 +91,8 @@ record Needed : Type 0 where
   -- an event's output has 260 bytes: refused by 4, the frame is gone
   output : Apart (after (v2 Granted) four 260 (arrivesAtUnit (call store12) ∷ arrivesAtTool 259 ∷ [])) Waiting books.done
   -- spoiled means refused: an intact frame takes the place of another
-  spoils : Apart (after (v2 Granted) four 260 (arrivesAtUnit (call store12) ∷ lineChanges toolEnd 0 (spoiled (subFrame lab 0x00 1 (0x01 ∷ 0x01 ∷ []))) ∷ arrivesAtTool 260 ∷ [])) Done books.waiting
+  spoils : Apart (after (v2 Granted) four 260
+      (arrivesAtUnit (call store12) ∷ lineChanges toolEnd 0 (spoiled (subFrame lab 0x00 1 (0x01 ∷ 0x01 ∷ []))) ∷ arrivesAtTool 260 ∷ [])) Done books.waiting
   -- On a clean line. The unit's state is possible: 11
   possible : Stuck (after (record { kind = 2; rate = 0; pending = 0; phase = Granted }) four 260 (arrivesAtUnit (call store12) ∷ []))
   -- the store is unbroken: 5

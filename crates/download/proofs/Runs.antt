@@ -25,10 +25,16 @@ use Rattle.tool.specs.Call.{requestNumber, beginNumber, beginState, beginSent, 
 
 -- a lookup in a store
 unfoldable pub lookups : Unit {0}
-unfolding numberAt firstFrom headerSize entrySize entriesSize nameAt headerFits countsFit filledTo placeRight placesRight answerRight answersRight repeats namesDiffer storeNumber lookupNumber lookupPlace lookupPart knownTo listed isActivities firstSecond dayNamed sameAnswer nameNumber
+unfolding numberAt firstFrom headerSize entrySize entriesSize nameAt headerFits countsFit filledTo placeRight placesRight answerRight answersRight
+    repeats namesDiffer storeNumber lookupNumber lookupPlace lookupPart knownTo listed isActivities firstSecond dayNamed sameAnswer nameNumber
 lookups = tt
 
 -- calls of both ends
 unfoldable pub calls : Unit {0}
-unfolding lookups closed frameOf countRight startRight addressed checksumRight judged dataPlace dataOf countOf carries subField subFrame possible possibleAt sendable phasePossible requestName answerFrom onTransfer onCode onSending onAcknowledge onData reactionAt reactionTo unitAfter replyData replyTo numberBefore unitNumber unitState unitReply unitResult transferRequest acknowledgement transferData frameSent sidSent heldRight transferPossible toolPossible requestNumber beginNumber beginState beginSent beginResult isAnswer receivedAs carriedBy header fits meaningOf transferMeaning isRefusal refusalMeaning dataMeaning arrivalMeaning arrivalBytes takes afterFailedWait stateAfter sentAfter roomAfter eventNumber eventState eventSent eventRoom eventResult front put
+unfolding lookups closed frameOf countRight startRight addressed checksumRight judged dataPlace dataOf countOf carries subField subFrame possible
+    possibleAt sendable phasePossible requestName answerFrom onTransfer onCode onSending onAcknowledge onData reactionAt reactionTo unitAfter
+    replyData replyTo numberBefore unitNumber unitState unitReply unitResult transferRequest acknowledgement transferData frameSent sidSent heldRight
+    transferPossible toolPossible requestNumber beginNumber beginState beginSent beginResult isAnswer receivedAs carriedBy header fits meaningOf
+    transferMeaning isRefusal refusalMeaning dataMeaning arrivalMeaning arrivalBytes takes afterFailedWait stateAfter sentAfter roomAfter eventNumber
+    eventState eventSent eventRoom eventResult front put
 calls = tt

@@ -141,7 +141,8 @@ module _ (a : Addresses) (g : Premises) where
     pub sendings : r .putOutBefore + r .system .tool .state .sendings ≡ r .system .putOut
 
   pub tool-at : (r : Run (cableEnds a)) (o : books.Outcome) → r .book .outcome ≡ o
-      → ToolAs (cableEnds a) (transfer a g) (facts a g) (r .system .tool) (r .system .putOut) (r .putOutBefore) (r .book .taken) (r .book .failed) (r .book .timeAsked) o
+      → ToolAs (cableEnds a) (transfer a g) (facts a g) (r .system .tool) (r .system .putOut) (r .putOutBefore) (r .book .taken) (r .book .failed)
+      (r .book .timeAsked) o
       → AfterAllowed (cableEnds a) (transfer a g) r → ToolAt r
   unfolding facts
   tool-at r books.waiting e t w =
@@ -184,7 +185,10 @@ module _ (a : Addresses) (g : Premises) where
         beginning = t .room .held ∙ frames.held-front g (r .book .taken) (w .takenAtMost) ∙ ap (λ (n : ℕ). take n (g .answer)) (sym (t .room .heldLength));
         doneAtQ = ((λ z. w .doneAtQ .0 (d z)), (λ z. t .outcome ∙ done-both o .1 (w .doneAtQ .1 z)));
         whole = λ z. t .room .held ∙ ap (heldWith g) (w .doneAtQ .0 (d z)) ∙ frames.held-all g;
-        noAnswerAtThree = ((λ z. w .noAnswerAtThree .0 (no-answer-both o .0 (sym (t .outcome) ∙ z))), (λ z. t .outcome ∙ no-answer-both o .1 (w .noAnswerAtThree .1 z)));
+        noAnswerAtThree = (
+          (λ z. w .noAnswerAtThree .0 (no-answer-both o .0 (sym (t .outcome) ∙ z))),
+          (λ z. t .outcome ∙ no-answer-both o .1 (w .noAnswerAtThree .1 z)),
+        );
         putOutAtMost = lineTheorem.three-each refl w;
         sendings = t .sendings;
         unitKind = rw (u .is) (units.kind-after g (u .last));
@@ -198,7 +202,10 @@ module _ (a : Addresses) (g : Premises) where
       let o : books.Outcome = r .book .outcome in
       record {
         agrees = k;
-        doneAtArrival = ((λ z. lineTheorem.done-at-q refl refl w .0 (done-both o .0 (sym (k .outcome) ∙ z))), (λ z. k .outcome ∙ done-both o .1 (lineTheorem.done-at-q refl refl w .1 z)));
+        doneAtArrival = (
+          (λ z. lineTheorem.done-at-q refl refl w .0 (done-both o .0 (sym (k .outcome) ∙ z))),
+          (λ z. k .outcome ∙ done-both o .1 (lineTheorem.done-at-q refl refl w .1 z)),
+        );
         neverEmpty = λ z e. absurd (omega (arith, w .oneString (waiting-both o (sym (k .outcome) ∙ z)), ap length e));
         neverNoAnswer = λ z. w .neverNoAnswer (no-answer-both o .0 (sym (k .outcome) ∙ z));
         inTime = λ z. k .outcome ∙ done-both o .1 (lineTheorem.in-time refl refl w z);

@@ -201,12 +201,19 @@ module _ (g : Premises) where
       framed : (k : ℕ) (r : Received) → receivedAs (g .name .trep) (suc p) (subField (g .name .trep) k (answerData g)) ≡ r
           → toolArrival a output (waitingTool p f) (transfer a g .frame k)
           ≡ leaves a (waitingTool p f)
-          (meaningOf r (fits (length (g .room)) (waitingTool p f .state) (length (newBytes (waitingTool p f .state) r (subField (g .name .trep) k (answerData g))))))
+          (meaningOf r (fits (length (g .room)) (waitingTool p f .state)
+          (length (newBytes (waitingTool p f .state) r (subField (g .name .trep) k (answerData g))))))
           (newBytes (waitingTool p f .state) r (subField (g .name .trep) k (answerData g)))
       unfolding arrivalMeaning dataMeaning transferMeaning arrivalBytes
       framed k r e =
           arrived a output (waitingTool p f) number (transfer a g .frame k) _ _
-          (rw (room-length p (omega arith), sub-good a (g .name .trep) k (answerData g), sub-reads-back a (g .name .trep) k (answerData g), no-refusal (waitingTool p f .state) (g .name .trep) k (answerData g), e))
+          (rw (
+            room-length p (omega arith),
+            sub-good a (g .name .trep) k (answerData g),
+            sub-reads-back a (g .name .trep) k (answerData g),
+            no-refusal (waitingTool p f .state) (g .name .trep) k (answerData g),
+            e,
+          ))
           (rw (sub-reads-back a (g .name .trep) k (answerData g), e))
 
       -- a frame below the expected one is ignored
@@ -225,7 +232,11 @@ module _ (g : Premises) where
         unfolding fits
         new-fits =
             let n = within (suc p) more in
-            rw (grown, le-leb (length (heldWith g (suc p))) (length (g .room)) (omega (arith, frames.fits g)), le-leb (length (heldWith g (suc p))) 60000 (omega (arith, frames.data-most g)))
+            rw (
+              grown,
+              le-leb (length (heldWith g (suc p))) (length (g .room)) (omega (arith, frames.fits g)),
+              le-leb (length (heldWith g (suc p))) 60000 (omega (arith, frames.data-most g)),
+            )
 
         put-behind : put (length (heldWith g p)) new (front (heldWith g p) (g .room)) ≡ front (heldWith g (suc p)) (g .room)
         put-behind = put-front (length (heldWith g p)) (heldWith g p) new (g .room) refl ∙ ap (λ (l : List ℕ). front l (g .room)) joins
@@ -244,7 +255,8 @@ module _ (g : Premises) where
 
       -- the expected frame, and more to follow: the next one is asked for
       pub takes : suc p < countOf (length (answerData g))
-          → toolArrival a output (waitingTool p f) (transfer a g .frame (suc p)) ≡ sends (waitingTool (suc p) 0) (frameSent a requests.Transfer (g .name) (suc (suc p)))
+          → toolArrival a output (waitingTool p f) (transfer a g .frame (suc p))
+          ≡ sends (waitingTool (suc p) 0) (frameSent a requests.Transfer (g .name) (suc (suc p)))
       unfolding meaningOf
       takes l =
           let s = frames.splits g (omega arith) in
@@ -269,7 +281,8 @@ module _ (g : Premises) where
           let z : p ≡ 0 = omega (arith, count-one (length (answerData g)) s) in
           let r : receivedAs (g .name .trep) (suc p) (subField (g .name .trep) (suc p) (answerData g)) ≡ Whole =
           rw z (whole-is (g .name .trep) (answerData g) s) in
-          let j : heldWith g p ++ newBytes (toolWith Waiting (suc f) (suc p) p .state) Whole (subField (g .name .trep) (suc p) (answerData g)) ≡ heldWith g (suc p) = rw z (joins-whole (suc f) s) in
+          let j : heldWith g p ++ newBytes (toolWith Waiting (suc f) (suc p) p .state) Whole (subField (g .name .trep) (suc p) (answerData g))
+          ≡ heldWith g (suc p) = rw z (joins-whole (suc f) s) in
           framed (suc p) Whole r ∙ rw (new-fits _ j) (ends-whole _ j) ∙ at-last)
         where
           at-last : _≡_ {A = Result (List ℕ) ToolRoom} (silent (toolWith Done (suc f) (suc p) (suc p))) (silent (doneTool f))

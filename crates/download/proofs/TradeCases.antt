@@ -51,12 +51,14 @@ module _ (store : List ℕ) (u : UnitState) (room : ℕ) (c : Called store u roo
   w1 p = reply (0x80 ∷ 0xEE ∷ 0xF0 ∷ 0x02 ∷ 0x10 ∷ 0x81 ∷ 0xF1 ∷ []) SessionOpened refl (rw p)
 
   w2 : u .phase ≡ Session
-      → unitReply lab store room u (0x80 ∷ 0xEE ∷ 0xF0 ∷ 0x0A ∷ 0x35 ∷ 0x00 ∷ 0x00 ∷ 0x00 ∷ 0x00 ∷ 0x00 ∷ 0xFF ∷ 0xFF ∷ 0xFF ∷ 0xFF ∷ 0x99 ∷ []) ≡ 0x80 ∷ 0xF0 ∷ 0xEE ∷ 0x03 ∷ 0x75 ∷ 0x00 ∷ 0xFF ∷ 0xD5 ∷ []
+      → unitReply lab store room u (0x80 ∷ 0xEE ∷ 0xF0 ∷ 0x0A ∷ 0x35 ∷ 0x00 ∷ 0x00 ∷ 0x00 ∷ 0x00 ∷ 0x00 ∷ 0xFF ∷ 0xFF ∷ 0xFF ∷ 0xFF ∷ 0x99 ∷ [])
+      ≡ 0x80 ∷ 0xF0 ∷ 0xEE ∷ 0x03 ∷ 0x75 ∷ 0x00 ∷ 0xFF ∷ 0xD5 ∷ []
   unfolding calls onUpload
   w2 p = reply (0x80 ∷ 0xEE ∷ 0xF0 ∷ 0x0A ∷ 0x35 ∷ 0x00 ∷ 0x00 ∷ 0x00 ∷ 0x00 ∷ 0x00 ∷ 0xFF ∷ 0xFF ∷ 0xFF ∷ 0xFF ∷ 0x99 ∷ []) UploadGranted refl (rw p)
 
 w3-reaction : (u : UnitState) → u .kind ≡ 2 → u .phase ≡ Granted
-    → reactionTo lab store12 u (0x80 ∷ 0xEE ∷ 0xF0 ∷ 0x02 ∷ 0x36 ∷ 0x00 ∷ 0x96 ∷ []) ≡ AnswerSent (record { trep = 0x00; day = 0 }) (sub 1) (record { number = 0; start = 12; len = 4 })
+    → reactionTo lab store12 u (0x80 ∷ 0xEE ∷ 0xF0 ∷ 0x02 ∷ 0x36 ∷ 0x00 ∷ 0x96 ∷ []) ≡ AnswerSent (record { trep = 0x00; day = 0 }) (sub 1)
+    (record { number = 0; start = 12; len = 4 })
 unfolding calls
 w3-reaction u k p = rw (k, p)
 
@@ -136,7 +138,8 @@ module _ (store : List ℕ) (u : UnitState) (room : ℕ) (c : Called store u roo
   w5 name q p = transfer-reply name (Negative 0x36 0x22) q (rw p) (rw p)
 
   w6 : (name : AnswerName) (last : ℕ) → u .phase ≡ Sending name (sub last) → last ≡ countOf (length (drop 2 (lookupPart narrow name store)))
-      → unitReply lab store room u (frameOf lab ends.Unit (acknowledgement (acknowledgeOf (sub last)))) ≡ 0x80 ∷ 0xF0 ∷ 0xEE ∷ 0x03 ∷ 0x7F ∷ 0x83 ∷ 0x12 ∷ 0x75 ∷ []
+      → unitReply lab store room u (frameOf lab ends.Unit (acknowledgement (acknowledgeOf (sub last)))) ≡ 0x80 ∷ 0xF0 ∷ 0xEE ∷ 0x03 ∷ 0x7F ∷ 0x83
+      ∷ 0x12 ∷ 0x75 ∷ []
   unfolding closed frameOf replyData replyTo acknowledgement onData
   w6 name last p e =
       let z = sending-held store name (sub last) (rw p at (ranges store u (c .possible) .phase)) in

@@ -88,7 +88,9 @@ sending-possible before now Granted s h = refl
 sending-possible before now (Sending name last) s h =
     let b = held-place before name (sending-held before name last h) in
     let n = held now name (lookupPart narrow name before) s in
-    let t : (isSplit (lookupPlace narrow name before .len - 2) && (leb 1 (last .0) && leb (last .0) (countOf (lookupPlace narrow name before .len - 2)))) ≡ true = and-right (eqb (lookupPlace narrow name before .number) 0) _ h in
+    let t : (isSplit (lookupPlace narrow name before .len - 2) &&
+    (leb 1 (last .0) && leb (last .0) (countOf (lookupPlace narrow name before .len - 2))))
+    ≡ true = and-right (eqb (lookupPlace narrow name before .number) 0) _ h in
     rw (n .number, n .len) (rw (b .len) at t)
 
 -- and it is unchanged in the same store
@@ -143,9 +145,11 @@ module _ (g : Premises) where
     possible-after : (n : ℕ) → CallPremise g (unitAfter n) c → n ≤ countOf (length (answerData g)) → possible (c .store) (unitAfter n) ≡ true
     unfolding possible possibleAt
     possible-after zero o h =
-        rw (sending-possible (g .store) (c .store) (g .unit .phase) (o .sending) (ranges (g .store) (g .unit) (g .possible) .phase)) (rw (ranges (g .store) (g .unit) (g .possible) .phase) at (g .possible))
+        rw (sending-possible (g .store) (c .store) (g .unit .phase) (o .sending) (ranges (g .store) (g .unit) (g .possible) .phase))
+        (rw (ranges (g .store) (g .unit) (g .possible) .phase) at (g .possible))
     possible-after (suc k) o h =
-        rw (ranges (g .store) (g .unit) (g .possible) .kind, ranges (g .store) (g .unit) (g .possible) .rate) (sent-possible k (held (c .store) (g .name) (g .answer) (o .this)) h (isSplit (length (answerData g))) refl)
+        rw (ranges (g .store) (g .unit) (g .possible) .kind, ranges (g .store) (g .unit) (g .possible) .rate)
+        (sent-possible k (held (c .store) (g .name) (g .answer) (o .this)) h (isSplit (length (answerData g))) refl)
 
     module _ (a : Addresses) (n : ℕ) (o : CallPremise g (unitAfter n) c) (h : n ≤ countOf (length (answerData g))) where
       whole : storeNumber narrow (c .store) ≡ 0
@@ -163,12 +167,14 @@ module _ (g : Premises) where
 
       -- a request at which the answer is sent
       asked : (k : ℕ) → leb 260 (c .reply) ≡ true
-          → onData (placeSent (c .store) (unitAfter n .phase)) (placeAsked (c .store) (transferData (g .name) (suc k))) (unitAfter n) (transferData (g .name) (suc k)) ≡ AnswerSent (g .name) (sub (suc k)) (lookupPlace narrow (g .name) (c .store))
+          → onData (placeSent (c .store) (unitAfter n .phase)) (placeAsked (c .store) (transferData (g .name) (suc k))) (unitAfter n)
+          (transferData (g .name) (suc k)) ≡ AnswerSent (g .name) (sub (suc k)) (lookupPlace narrow (g .name) (c .store))
           → unitCall a c (unitAfter n) (frameSent a requests.Transfer (g .name) (suc k)) ≡ sends (unitAfter (suc k)) (transfer a g .frame (suc k))
       unfolding frameSent
       asked k l e =
           called a c (unitAfter n) _ _ (not-refused a (c .store) (unitAfter n) (c .reply) _ whole (possible-after n o h) l (asked-good a (g .name) (suc k)))
-          (heard a (c .store) (unitAfter n) (transferData (g .name) (suc k)) (asked-some (g .name) (suc k)) (asked-most (g .name) (suc k)) (granted-open (unitAfter n .phase) (granted-after n)) ∙ e)
+          (heard a (c .store) (unitAfter n) (transferData (g .name) (suc k)) (asked-some (g .name) (suc k)) (asked-most (g .name) (suc k))
+          (granted-open (unitAfter n .phase) (granted-after n)) ∙ e)
           ∙ sent a c (unitAfter n) (g .name) (suc k) (g .answer) (held (c .store) (g .name) (g .answer) (o .this))
           ∙ ap (λ (u : UnitState). sends u (transfer a g .frame (suc k))) (phase-after n k)
 
@@ -195,7 +201,8 @@ module _ (g : Premises) where
         is-split : isSplit (length (answerData g)) ≡ true
         is-split = lt-ltb 252 (length (answerData g)) (splits g (omega arith))
 
-        again : onAcknowledge (unitAfter (suc n) .phase) (placeSent (c .store) (unitAfter (suc n) .phase)) (acknowledgement (acknowledgeOf (sub (suc k)))) ≡ AnswerSent (g .name) (sub (suc (suc k))) (lookupPlace narrow (g .name) (c .store))
+        again : onAcknowledge (unitAfter (suc n) .phase) (placeSent (c .store) (unitAfter (suc n) .phase))
+            (acknowledgement (acknowledgeOf (sub (suc k)))) ≡ AnswerSent (g .name) (sub (suc (suc k))) (lookupPlace narrow (g .name) (c .store))
         again =
             rw is-split
             (byTest (eqb (suc n) (suc (suc k)))

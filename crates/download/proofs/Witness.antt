@@ -180,8 +180,10 @@ other-premise k reply = record { this = other-overview; sending = other-sending 
 abbrev rough : List (Event (cableEnds lab))
 rough =
     lineChanges unitEnd 0 lost ∷ waitEnds 260 ∷ lineChanges unitEnd 0 repeated ∷ arrivesAtUnit call ∷ waitEnds 260 ∷ arrivesAtUnit otherCall ∷ arrivesAtTool 260
-    ∷ beginRefused (record { request = Transfer; name = interface; output = 260 }) ∷ arrivesAtTool 300 ∷ arrivesAtUnit shortCall ∷ lineChanges unitEnd 0 (spoiled (0x01 ∷ []))
-    ∷ arrivesAtUnit call ∷ waitEnds 260 ∷ arrivesAtUnit call ∷ lineChanges toolEnd 0 repeated ∷ lineChanges toolEnd 0 (spoiled []) ∷ arrivesAtTool 260 ∷ arrivesAtTool 260
+    ∷ beginRefused (record { request = Transfer; name = interface; output = 260 }) ∷ arrivesAtTool 300 ∷ arrivesAtUnit shortCall
+    ∷ lineChanges unitEnd 0 (spoiled (0x01 ∷ []))
+    ∷ arrivesAtUnit call ∷ waitEnds 260 ∷ arrivesAtUnit call ∷ lineChanges toolEnd 0 repeated ∷ lineChanges toolEnd 0 (spoiled [])
+    ∷ arrivesAtTool 260 ∷ arrivesAtTool 260
     ∷ arrivesAtUnit otherCall ∷ arrivesAtUnit call ∷ arrivesAtTool 260 ∷ arrivesAtTool 260 ∷ []
 
 rough-run : after rough
@@ -206,8 +208,49 @@ rough-run = refl
 
 rough-premises : AllAllowed (cableEnds lab) (transfer lab threeFrames) rough (start (cableEnds lab) (transfer lab threeFrames) .system)
 unfolding calls
-rough-premises =
-    (tt, (omega arith, (tt, (first-premise, (omega arith, (other-premise 1 300, (omega arith, (refl, (omega arith, (other-premise 1 10, (refl, (call-premise 1, (omega arith, (call-premise 1, (tt, (refl, (omega arith, (omega arith, (other-premise 2 300, (call-premise 2, (omega arith, (omega arith, tt))))))))))))))))))))))
+rough-premises = (
+  tt,
+  (
+    omega arith,
+    (
+      tt,
+      (
+        first-premise,
+        (
+          omega arith,
+          (
+            other-premise 1 300,
+            (
+              omega arith,
+              (
+                refl,
+                (
+                  omega arith,
+                  (
+                    other-premise 1 10,
+                    (
+                      refl,
+                      (
+                        call-premise 1,
+                        (
+                          omega arith,
+                          (
+                            call-premise 1,
+                            (tt, (refl, (omega arith, (omega arith, (other-premise 2 300, (call-premise 2, (omega arith, (omega arith, tt)))))))),
+                          ),
+                        ),
+                      ),
+                    ),
+                  ),
+                ),
+              ),
+            ),
+          ),
+        ),
+      ),
+    ),
+  ),
+)
 
 rough-agrees : Agrees lab threeFrames (after rough)
 rough-agrees = demand3 lab threeFrames rough .allowed rough-premises

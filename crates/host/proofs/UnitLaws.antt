@@ -79,7 +79,8 @@ module _ (b : List ℕ) where
 
 pub unit-packed : (u : UnitState) (byte : ℕ) (name : AnswerName) (last : SubMessage) → byte ≡ phaseByte (u .phase) → name ≡ nameSent (u .phase)
     → last ≡ lastSent (u .phase)
-    → u .kind ∷ u .rate ∷ u .pending ∷ byte ∷ name .trep ∷ name .day / 256 / 256 / 256 % 256 ∷ name .day / 256 / 256 % 256 ∷ name .day / 256 % 256 ∷ name .day % 256
+    → u .kind ∷ u .rate ∷ u .pending ∷ byte ∷ name .trep ∷ name .day / 256 / 256 / 256 % 256 ∷ name .day / 256 / 256 % 256 ∷ name .day / 256 % 256
+    ∷ name .day % 256
     ∷ last .0 / 256 % 256 ∷ last .0 % 256 ∷ []
     ≡ packedUnit u
 unfolding packedUnit
@@ -141,8 +142,10 @@ unfolding unpackedUnit packedUnit isUnit
 unit-again b bytes h =
     let l : length b ≡ 11 = unit-size b h in
     let a = again (unitName b) (unitLast b) (getD b 3 0) (and-right (eqb (length b) 11) _ h) in
-    let e : packedUnit (unpackedUnit b) ≡ getD b 0 0 ∷ getD b 1 0 ∷ getD b 2 0 ∷ getD b 3 0 ∷ getD b 4 0 ∷ (bytesOf 4 (numberAt 4 5 b) ++ bytesOf 2 (numberAt 2 9 b)) =
+    let e : packedUnit (unpackedUnit b) ≡ getD b 0 0 ∷ getD b 1 0 ∷ getD b 2 0 ∷ getD b 3 0 ∷ getD b 4 0
+    ∷ (bytesOf 4 (numberAt 4 5 b) ++ bytesOf 2 (numberAt 2 9 b)) =
     rw (h, a .tag, a .named, a .ended) in
     e
-    ∙ ap₂ (λ (x y : List ℕ). getD b 0 0 ∷ getD b 1 0 ∷ getD b 2 0 ∷ getD b 3 0 ∷ getD b 4 0 ∷ (x ++ y)) (field-back 4 5 b bytes refl (omega arith)) (field-back 2 9 b bytes refl (omega arith))
+    ∙ ap₂ (λ (x y : List ℕ). getD b 0 0 ∷ getD b 1 0 ∷ getD b 2 0 ∷ getD b 3 0 ∷ getD b 4 0 ∷ (x ++ y)) (field-back 4 5 b bytes refl (omega arith))
+    (field-back 2 9 b bytes refl (omega arith))
     ∙ spelled 11 b l

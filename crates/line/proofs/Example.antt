@@ -256,7 +256,15 @@ repeatedReply =
 
 repeated-run : after 1 repeatedReply
     ≡ record {
-      system = record { toUnit = ask 1 ∷ ask 1 ∷ []; toTool = []; unit = sender 0 0; tool = tool heldOff 0 0 2; putOut = 3; unitArrivals = 1; toolArrivals = 3 };
+      system = record {
+        toUnit = ask 1 ∷ ask 1 ∷ [];
+        toTool = [];
+        unit = sender 0 0;
+        tool = tool heldOff 0 0 2;
+        putOut = 3;
+        unitArrivals = 1;
+        toolArrivals = 3;
+      };
       book = record { taken = 0; failed = 0; timeAsked = 3; outcome = heldOff };
       putOutBefore = 0;
     }
@@ -313,7 +321,15 @@ silence = lineChanges unitEnd 0 lost ∷ waitEnds tt ∷ waitEnds tt ∷ waitEnd
 
 silent-run : after 1 silence
     ≡ record {
-      system = record { toUnit = ask 1 ∷ ask 1 ∷ []; toTool = []; unit = sender 0 1; tool = tool noAnswer 0 2 0; putOut = 3; unitArrivals = 0; toolArrivals = 0 };
+      system = record {
+        toUnit = ask 1 ∷ ask 1 ∷ [];
+        toTool = [];
+        unit = sender 0 1;
+        tool = tool noAnswer 0 2 0;
+        putOut = 3;
+        unitArrivals = 0;
+        toolArrivals = 0;
+      };
       book = record { taken = 0; failed = 3; timeAsked = 0; outcome = noAnswer };
       putOutBefore = 0;
     }

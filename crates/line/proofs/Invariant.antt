@@ -172,13 +172,20 @@ module _ (E : Ends) (T : Transfer E) (facts : Facts E T) (Unrepeatedly : Type 0)
   module _ (d : E .ToolGiven) (o : toolPremise d) {u : UnitNumbers} {s : System E} where
     -- A failed wait; ys is left of the queue to the tool.
     fails : {v : ToolNumbers} {ys : List (E .String)} (arrivals : ℕ) → At u v waiting s → ToTool strings (u .last) ys → Budget (u .owes) (bookAt v waiting) ys
-        → Preserved (bookAt v waiting) (v .before) (s .putOut) (toolCalled E s ys arrivals (E .toolWaitEnd d (toolOf v waiting))) (failedWait (bookAt v waiting))
+        → Preserved (bookAt v waiting) (v .before) (s .putOut) (toolCalled E s ys arrivals (E .toolWaitEnd d (toolOf v waiting)))
+        (failedWait (bookAt v waiting))
     fails {v} arrivals k h b =
         byTest (eqb (suc (v .failed)) 3)
         (λ e.
         let t : suc (v .failed) ≡ 3 = eqb-true (suc (v .failed)) 3 e in
         let tool : ToolAt v noAnswer (toolOf v noAnswer) (s .putOut) = record { is = refl; counts = k .tool .counts; reached = t; sent = k .tool .sent } in
-        rw (itself (v .taken), facts .endsNoAnswer d (v .taken) (v .failed) (v .timeAsked) o (k .tool .counts .waits) t, e, append-nil (s .toUnit), add-zero (s .putOut))
+        rw (
+          itself (v .taken),
+          facts .endsNoAnswer d (v .taken) (v .failed) (v .timeAsked) o (k .tool .counts .waits) t,
+          e,
+          append-nil (s .toUnit),
+          add-zero (s .putOut),
+        )
         (holds (record { unit = k .unit; tool = tool; order = otherToTool (k .order) h; budget = b })))
         (λ e.
         let t : suc (v .failed) < 3 = omega (arith, eqb-false (suc (v .failed)) 3 e) in

@@ -122,7 +122,8 @@ module _ (E : Ends) (T : Transfer E) (facts : Facts E T) (Unrepeatedly : Type 0)
   pub agreesAt : (r : Run E) → Invariant E T facts Unrepeatedly r → Agrees E T facts r
   agreesAt r i =
       record {
-        tool = rw (i .book, i .before) (toolIs (r .system .tool) (i .tool) (r .system .putOut) (i .outcome) (i .at .tool .reached) (i .at .tool .counts) (i .at .tool .is) (i .at .tool .sent));
+        tool = rw (i .book, i .before) (toolIs (r .system .tool) (i .tool) (r .system .putOut) (i .outcome) (i .at .tool .reached)
+            (i .at .tool .counts) (i .at .tool .is) (i .at .tool .sent));
         last = i .unit .last;
         owes = i .unit .owes;
         replied = i .unit .replied;

@@ -100,7 +100,8 @@ put-put h v w o m =
     let q : h + length v + length w ≡ h + length (v ++ w) = omega (arith, length-append v w) in
     let r : drop (h + length v + length w) ((take h o ++ v) ++ drop (h + length v) o) ≡ drop (h + length (v ++ w)) o =
     rw (← p, drop-append-add, drop-drop, p, q) in
-    rw (r, take-at (take h o ++ v) (drop (h + length v) o) (h + length v) p) (ap (λ (l : List ℕ). l ++ drop (h + length (v ++ w)) o) (append-assoc (take h o) v w))
+    rw (r, take-at (take h o ++ v) (drop (h + length v) o) (h + length v) p)
+    (ap (λ (l : List ℕ). l ++ drop (h + length (v ++ w)) o) (append-assoc (take h o) v w))
 
 -- nothing put changes nothing
 pub put-none : (h : ℕ) (o : List ℕ) → o ≡ put h [] o

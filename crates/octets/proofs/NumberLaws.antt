@@ -71,7 +71,15 @@ module _ (at : ℕ) (s : List ℕ) where
   part-four h =
       let two : at + 2 ≡ suc (suc at) = omega arith in
       let three : at + 3 ≡ suc (suc (suc at)) = omega arith in
-      rw (drop-cons s at 0 (omega arith), drop-cons s (suc at) 0 (omega arith), drop-cons s (suc (suc at)) 0 (omega arith), drop-cons s (suc (suc (suc at))) 0 (omega arith), add-one, two, three)
+      rw (
+        drop-cons s at 0 (omega arith),
+        drop-cons s (suc at) 0 (omega arith),
+        drop-cons s (suc (suc at)) 0 (omega arith),
+        drop-cons s (suc (suc (suc at))) 0 (omega arith),
+        add-one,
+        two,
+        three,
+      )
 
   pub read-two : (r width : ℕ) → at ≤ length s → width ≤ length s - at → width ≡ 2 → r ≡ numberOf (getD s at 0 ∷ getD s (at + 1) 0 ∷ [])
       → r ≡ numberAt width at s

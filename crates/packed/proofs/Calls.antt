@@ -115,7 +115,8 @@ module _ (output : List ℕ) (t : ToolRoom) (f : tools.Fits (t .state)) where
         next = record { state = b; room = arrivalRoom lab (t .state) x (length output) (t .room) };
         out = strings (eventSent lab (t .state) (arrivalMeaning lab (length (t .room)) (t .state) x) (length (t .room)) (length output));
       })
-      (kept-packs packedTool (eventNumber (t .state) (length (t .room)) (length output)) (packedTool (t .state)) (toolAfter (t .state) (arrivalMeaning lab (length (t .room)) (t .state) x) (length (arrivalBytes lab (t .state) x))) (t .state) refl))
+      (kept-packs packedTool (eventNumber (t .state) (length (t .room)) (length output)) (packedTool (t .state))
+      (toolAfter (t .state) (arrivalMeaning lab (length (t .room)) (t .state) x) (length (arrivalBytes lab (t .state) x))) (t .state) refl))
 
   pub tool-waited : toolWaitEnd output (toolBytes t) ≡ packedTools (cable.toolWaitEnd lab (length output) t)
   unfolding toolHanded toolKept eventResult eventState
@@ -125,7 +126,8 @@ module _ (output : List ℕ) (t : ToolRoom) (f : tools.Fits (t .state)) where
         next = record { state = b; room = t .room };
         out = strings (eventSent lab (t .state) FailedWait (length (t .room)) (length output));
       })
-      (kept-packs packedTool (eventNumber (t .state) (length (t .room)) (length output)) (packedTool (t .state)) (toolAfter (t .state) FailedWait 0) (t .state) refl))
+      (kept-packs packedTool (eventNumber (t .state) (length (t .room)) (length output)) (packedTool (t .state)) (toolAfter (t .state) FailedWait 0)
+      (t .state) refl))
 
 -- An ended tool refuses every event by 11, whatever numbers it has kept
 module _ (output : List ℕ) (t : ToolRoom) (ended : isWaiting (t .state .outcome) ≡ false) where

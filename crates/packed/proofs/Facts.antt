@@ -91,7 +91,8 @@ module _ (g : Premises) (bytes : StateBytes g) where
 
   -- a waiting tool's calls on packed bytes
   pub arrived : (d : List ℕ) (p f : ℕ) → suc p ≤ countOf (length (answerData g)) → (x : List ℕ)
-      → packedEnds .toolArrival d (toolBytes (tools.waitingTool g p f)) x ≡ packedTools (cable.cableEnds lab .toolArrival (length d) (tools.waitingTool g p f) x)
+      → packedEnds .toolArrival d (toolBytes (tools.waitingTool g p f)) x
+      ≡ packedTools (cable.cableEnds lab .toolArrival (length d) (tools.waitingTool g p f) x)
   arrived d p f h x = tool-arrived d (tools.waitingTool g p f) (waiting-fits p f (omega arith)) x
 
   pub waited : (d : List ℕ) (p f : ℕ) → suc p ≤ countOf (length (answerData g))

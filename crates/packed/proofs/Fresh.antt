@@ -63,9 +63,11 @@ module _ (kind : ℕ) (store reply : List ℕ) (k : kind < 3) (unbroken : storeN
   upload = stepped Session Granted requests.Upload tt (rw (lt-ltb kind 3 k)) refl refl
 
   granted : (state : List ℕ) → length state ≡ 11
-      → behind store reply requests.Upload (behind store reply requests.Session (behind store reply requests.Start (unitFreshState kind state))) ≡ packedUnit (unitIn kind Granted)
+      → behind store reply requests.Upload (behind store reply requests.Session (behind store reply requests.Start (unitFreshState kind state)))
+      ≡ packedUnit (unitIn kind Granted)
   granted state h =
-      ap (λ (b : List ℕ). behind store reply requests.Upload (behind store reply requests.Session (behind store reply requests.Start b))) (simulation .unitFresh kind state k h .packed)
+      ap (λ (b : List ℕ). behind store reply requests.Upload (behind store reply requests.Session (behind store reply requests.Start b)))
+      (simulation .unitFresh kind state k h .packed)
       ∙ ap (λ (b : List ℕ). behind store reply requests.Upload (behind store reply requests.Session b)) started
       ∙ ap (behind store reply requests.Upload) session
       ∙ upload

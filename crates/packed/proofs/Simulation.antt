@@ -51,7 +51,8 @@ unit-stepped : (b store f : List ℕ) (room : ℕ) → Bytes b → isUnit b ≡ 
     → unitKept (unitStep b store room f) b ≡ packedUnit (unitState lab store room (unpackedUnit b) f)
 unfolding unitKept unitResult unitState
 unit-stepped b store f room bytes is =
-    kept-packs packedUnit (unitNumber lab store room (unpackedUnit b) f) b (stateAfter (unpackedUnit b) (reactionTo lab store (unpackedUnit b) f)) (unpackedUnit b) (sym (unit-again b bytes is))
+    kept-packs packedUnit (unitNumber lab store room (unpackedUnit b) f) b (stateAfter (unpackedUnit b) (reactionTo lab store (unpackedUnit b) f))
+    (unpackedUnit b) (sym (unit-again b bytes is))
 
 module _ (b : List ℕ) (bytes : Bytes b) (is : isTool b ≡ true) where
   tool-evented : (m : Meaning) (new room out : ℕ)
@@ -65,7 +66,8 @@ module _ (b : List ℕ) (bytes : Bytes b) (is : isTool b ≡ true) where
   unfolding toolKept toolBegin beginResult beginState
   tool-began request name out h =
       rw (le-leb request 5 h)
-      (kept-packs packedTool (beginNumber (unpackedTool b) (requestFrom request) name out) b (begun (requestFrom request) name) (unpackedTool b) (sym (tool-again b bytes is)))
+      (kept-packs packedTool (beginNumber (unpackedTool b) (requestFrom request) name out) b (begun (requestFrom request) name) (unpackedTool b)
+      (sym (tool-again b bytes is)))
 
 pub simulation : Simulation
 unfolding beginResult eventResult
@@ -74,11 +76,15 @@ simulation =
       unitFresh = λ kind b k h. unit-is _ (freshUnit kind) tt (unit-fresh kind b k h);
       toolFresh = λ b h. tool-is _ freshTool (record { day = omega arith; expected = omega arith; held = omega arith }) (tool-fresh b h);
       unitStep = λ b store f reply bytes heard is.
-          unit-is _ _ (units.step-fits (unpackedUnit b) (unit-fits b bytes is) store lab f heard (length reply)) (unit-stepped b store f (length reply) bytes is);
+          unit-is _ _ (units.step-fits (unpackedUnit b) (unit-fits b bytes is) store lab f heard (length reply))
+          (unit-stepped b store f (length reply) bytes is);
       toolBegin = λ b request name out bytes is h d.
-          tool-is _ _ (tools.begin-fits (unpackedTool b) (tool-fits b bytes is) (requestFrom request) name (length out) d) (tool-began b bytes is request name (length out) h);
+          tool-is _ _ (tools.begin-fits (unpackedTool b) (tool-fits b bytes is) (requestFrom request) name (length out) d)
+          (tool-began b bytes is request name (length out) h);
       toolArrival = λ b f room out bytes is.
-          tool-is _ _ (tools.arrival-fits (unpackedTool b) (tool-fits b bytes is) lab f (length room) (length out)) (tool-evented b bytes is _ _ (length room) (length out));
+          tool-is _ _ (tools.arrival-fits (unpackedTool b) (tool-fits b bytes is) lab f (length room) (length out))
+          (tool-evented b bytes is _ _ (length room) (length out));
       toolWait = λ b room out bytes is.
-          tool-is _ _ (tools.wait-fits (unpackedTool b) (tool-fits b bytes is) (length room) (length out)) (tool-evented b bytes is _ _ (length room) (length out));
+          tool-is _ _ (tools.wait-fits (unpackedTool b) (tool-fits b bytes is) (length room) (length out))
+          (tool-evented b bytes is _ _ (length room) (length out));
     }

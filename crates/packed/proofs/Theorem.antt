@@ -62,13 +62,16 @@ module _ (g : Premises) (bytes : StateBytes g) (es : List (Event packedEnds))
 
   -- and the tool's bytes are read as the tool that the book has
   tool-unpacked : (outcome : books.Outcome)
-      → ToolAs packedEnds (packedTransfer g bytes) (packedFacts g bytes) (after .system .tool) (after .system .putOut) (after .putOutBefore) (after .book .taken)
+      → ToolAs packedEnds (packedTransfer g bytes) (packedFacts g bytes) (after .system .tool) (after .system .putOut) (after .putOutBefore)
+      (after .book .taken)
       (after .book .failed) (after .book .timeAsked) outcome
-      → ToolAs (cableEnds lab) (transfer lab g) (theorem.facts lab g) (unpackedRun after .system .tool) (after .system .putOut) (after .putOutBefore) (after .book .taken)
+      → ToolAs (cableEnds lab) (transfer lab g) (theorem.facts lab g) (unpackedRun after .system .tool) (after .system .putOut) (after .putOutBefore)
+      (after .book .taken)
       (after .book .failed) (after .book .timeAsked) outcome
   unfolding packedFacts theorem.facts
   tool-unpacked books.waiting t =
-      read (after .system .tool) (tools.waitingTool g (after .book .taken) (after .book .failed)) (waiting-fits g bytes (after .book .taken) (after .book .failed) (claimed .takenAtMost)) t
+      read (after .system .tool) (tools.waitingTool g (after .book .taken) (after .book .failed))
+      (waiting-fits g bytes (after .book .taken) (after .book .failed) (claimed .takenAtMost)) t
   tool-unpacked books.done t =
       record {
         taken = t .taken;
@@ -109,12 +112,14 @@ module _ (g : Premises) (bytes : StateBytes g) (es : List (Event packedEnds))
   packs-again b t f e = rw (e, tool-returns (t .state) f)
 
   tool-packs : (outcome : books.Outcome)
-      → ToolAs packedEnds (packedTransfer g bytes) (packedFacts g bytes) (after .system .tool) (after .system .putOut) (after .putOutBefore) (after .book .taken)
+      → ToolAs packedEnds (packedTransfer g bytes) (packedFacts g bytes) (after .system .tool) (after .system .putOut) (after .putOutBefore)
+      (after .book .taken)
       (after .book .failed) (after .book .timeAsked) outcome
       → after .system .tool .state ≡ packedTool (unpackedTool (after .system .tool .state))
   unfolding packedFacts
   tool-packs books.waiting t =
-      packs-again (after .system .tool) (tools.waitingTool g (after .book .taken) (after .book .failed)) (waiting-fits g bytes (after .book .taken) (after .book .failed) (claimed .takenAtMost)) t
+      packs-again (after .system .tool) (tools.waitingTool g (after .book .taken) (after .book .failed))
+      (waiting-fits g bytes (after .book .taken) (after .book .failed) (claimed .takenAtMost)) t
   tool-packs books.done t = packs-again (after .system .tool) (tools.doneTool g (t .failed)) (done-fits g bytes (t .failed)) (t .is)
   tool-packs books.noAnswer t =
       packs-again (after .system .tool) (tools.noAnswerTool g (after .book .taken)) (no-answer-fits g bytes (after .book .taken) (claimed .takenAtMost)) t

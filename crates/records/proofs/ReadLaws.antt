@@ -33,7 +33,13 @@ cut-joined size (suc count) d =
     let t : size * suc count ≡ size + size * count = mul-suc size count ∙ add-comm (size * count) size in
     let same : (k : ℕ) → k < count → partAt (size * suc k) size d ≡ partAt (size * k) size (drop size d) =
     λ k h. rw (mul-suc size k ∙ add-comm (size * k) size, drop-drop (size * k) size d) in
-    rw (mul-zero, t, take-add size (size * count) d, same-values count (λ k. partAt (size * suc k) size d) (λ k. partAt (size * k) size (drop size d)) same, cut-joined size count (drop size d))
+    rw (
+      mul-zero,
+      t,
+      take-add size (size * count) d,
+      same-values count (λ k. partAt (size * suc k) size d) (λ k. partAt (size * k) size (drop size d)) same,
+      cut-joined size count (drop size d),
+    )
 
 -- The array that stands at a place
 
@@ -64,7 +70,8 @@ module _ (at : ℕ) (s : List ℕ) (bytes : Bytes s) (stands : standsAt at s ≡
 
   records-joined : joined (recordsHere at s) ≡ partAt (at + 5) (lengthAt at s) s
   records-joined =
-      ap joined (same-values (countAt at s) (λ k. partAt (at + 5 + sizeAt at s * k) (sizeAt at s) s) (λ k. partAt (sizeAt at s * k) (sizeAt at s) (drop (at + 5) s)) (λ k h. rw drop-drop))
+      ap joined (same-values (countAt at s) (λ k. partAt (at + 5 + sizeAt at s * k) (sizeAt at s) s)
+      (λ k. partAt (sizeAt at s * k) (sizeAt at s) (drop (at + 5) s)) (λ k h. rw drop-drop))
       ∙ cut-joined (sizeAt at s) (countAt at s) (drop (at + 5) s)
 
   -- header and records, written, are the bytes there

@@ -50,7 +50,8 @@ module _ (l : List RecordArray) (sound : AllSound l) where
     unfolding arrayNumber
     there = rw (run, many, lt-ltb i (length l) below)
 
-    place-there : (drop (headerOf i (written l)) (written l) ≡ writtenArray (getD l i noRecords) ++ written (drop (suc i) l)) × (headerOf i (written l) ≡ 0 + length (written (take i l)))
+    place-there : (drop (headerOf i (written l)) (written l) ≡ writtenArray (getD l i noRecords) ++ written (drop (suc i) l)) ×
+        (headerOf i (written l) ≡ 0 + length (written (take i l)))
     place-there = behind-written l i 0 (written l) sound below refl
 
     header : headerOf i (written l) ≡ length (written (take i l))
@@ -73,13 +74,25 @@ module _ (l : List RecordArray) (sound : AllSound l) where
         let a : RecordArray = getD l i noRecords in
         let h = place-there .0 in
         let rest : List ℕ = written (drop (suc i) l) in
-        rw (there, kind-here at (written l) a rest (sound i below) h, length-here at (written l) a rest (sound i below) h, size-here at (written l) a rest (sound i below) h, count-here at (written l) a rest (sound i below) h, header)
+        rw (
+          there,
+          kind-here at (written l) a rest (sound i below) h,
+          length-here at (written l) a rest (sound i below) h,
+          size-here at (written l) a rest (sound i below) h,
+          count-here at (written l) a rest (sound i below) h,
+          header,
+        )
 
     -- its part of the body is its records, one behind the other
     pub written-records : arrayRecords i (written l) ≡ joined (getD l i noRecords .records)
     unfolding arrayRecords
     written-records =
-        rw (written-array, ← header, records-part (headerOf i (written l)) (written l) (getD l i noRecords) (written (drop (suc i) l)) (sound i below) (place-there .0))
+        rw (
+          written-array,
+          ← header,
+          records-part (headerOf i (written l)) (written l) (getD l i noRecords) (written (drop (suc i) l))
+              (sound i below) (place-there .0),
+        )
         (take-at (joined (getD l i noRecords .records)) _ _ refl)
 
     -- record (i, k) is there, and is that record
@@ -97,7 +110,11 @@ module _ (l : List RecordArray) (sound : AllSound l) where
           let a : RecordArray = getD l i noRecords in
           let rest : List ℕ = written (drop (suc i) l) in
           record-there i (written l) there k listed
-          ∙ rw (size-here at (written l) a rest (sound i below) (place-there .0), ← drop-drop (a .size * k) (at + 5) (written l), records-part at (written l) a rest (sound i below) (place-there .0))
+          ∙ rw (
+            size-here at (written l) a rest (sound i below) (place-there .0),
+            ← drop-drop (a .size * k) (at + 5) (written l),
+            records-part at (written l) a rest (sound i below) (place-there .0),
+          )
           (joined-record (a .size) (a .records) rest (sound i below .each) k inside)
 
   array-back : (i : ℕ) → i < length l → arrayRead i (written l) ≡ getD l i noRecords
@@ -106,7 +123,8 @@ module _ (l : List RecordArray) (sound : AllSound l) where
       let a : RecordArray = getD l i noRecords in
       rw (written-array i below)
       (ap (λ (x : List (List ℕ)). arrayOf (a .kind) (a .size) x)
-      (same-values (length (a .records)) (λ k. recordOf i k (written l)) (λ k. getD (a .records) k []) (λ k h. written-record i below k h) ∙ values-of (a .records) []))
+      (same-values (length (a .records)) (λ k. recordOf i k (written l)) (λ k. getD (a .records) k []) (λ k h. written-record i below k h)
+      ∙ values-of (a .records) []))
 
   -- so the whole list is read back
   pub read-written : arraysRead (written l) ≡ l
@@ -174,7 +192,8 @@ part-of-part a n b m s h q =
 
 -- two parts that are the same where the check holds, and empty where it fails
 part-by : (t : Bool) (a b m : ℕ) (x y : List ℕ) → (t ≡ true → partAt a m x ≡ partAt b m y)
-    → partAt (placeBy (unless t 10 0) a m .start) (placeBy (unless t 10 0) a m .len) x ≡ partAt (placeBy (unless t 10 0) b m .start) (placeBy (unless t 10 0) b m .len) y
+    → partAt (placeBy (unless t 10 0) a m .start) (placeBy (unless t 10 0) a m .len) x
+    ≡ partAt (placeBy (unless t 10 0) b m .start) (placeBy (unless t 10 0) b m .len) y
 part-by true a b m x y e = e refl
 part-by false a b m x y e = refl
 

@@ -37,7 +37,8 @@ ten-in-odd view k odd =
     let none : Place = refusedPlace 10 in
     let bytes : ℕ = length (view .records) in
     let e : placeIn (view .records) (view .size) (view .count) k ≡ none =
-    by-zero (view .size) (λ z. sym (in-zero bytes (view .size) (view .count) k none z refl)) (λ n. sym (in-other bytes (view .size) (view .count) k (view .size * view .count) n refl none (odd n) refl)) in
+    by-zero (view .size) (λ z. sym (in-zero bytes (view .size) (view .count) k none z refl))
+    (λ n. sym (in-other bytes (view .size) (view .count) k (view .size * view .count) n refl none (odd n) refl)) in
     (ap (λ (p : Place). p .number) e, ap (λ (p : Place). partAt (p .start) (p .len) (view .records)) e)
 
 module _ (i k : ℕ) (s : List ℕ) where

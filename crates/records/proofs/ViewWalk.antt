@@ -85,14 +85,17 @@ module _ (T : Ended) where
             show ! (λ (ws′ : Lasts T κs a). sep 𝓤 (sem 𝓤 H A (lasts T κs a ws′)) (fact 𝓤 (Says κs a r))) ws $ says ! e $ by ! still
 
         -- a call of such a function: the result, its relation, the fact and the tokens. `val` spells the result's machine value
-        module _ {K : Type 0} {Γ : List (Item 𝓤)} {E : Env 𝓤 H} {C : Calls 𝓤 H} {Λ : Loops 𝓤 H} {q : Post 𝓤 H} {f : Name} {xs : List Operand} {d : Place} {rest : Body} where
+        module _ {K : Type 0} {Γ : List (Item 𝓤)} {E : Env 𝓤 H} {C : Calls 𝓤 H} {Λ : Loops 𝓤 H} {q : Post 𝓤 H} {f : Name} {xs : List Operand}
+            {d : Place} {rest : Body} where
           pub calls : K → FmC 𝓤 H (W .laws) C → Triple 𝓤 (C f) Told → (val : R .Denot → Val) → Tells R (Is R) (λ r. val r ∷ [])
               → Opds K W (handed vss ∷ Γ) E xs (flat (Ts κs) vss)
-              → ((r : Res S κs) → Says κs a r → Is R r (val r ∷ []) → Seq K W (‵ (R .own r (val r ∷ [])) ∷ raw (alive 𝓤 H A S κs qs) ∷ Γ) (lands C Λ E d (val r) rest q))
+              → ((r : Res S κs) → Says κs a r → Is R r (val r ∷ []) → Seq K W (‵ (R .own r (val r ∷ [])) ∷ raw (alive 𝓤 H A S κs qs) ∷ Γ)
+              (lands C Λ E d (val r) rest q))
               → Seq K W (handed vss ∷ Γ) (runs C Λ E (seq (call f xs d) rest) q)
           calls t fm known val tells os k =
               calls-from t fm (handed vss) (flat (Ts κs) vss) (Told .post y) (via 𝓤 (Told .pre y) asked (known y)) os (λ u.
-              use1 W (later (some (λ (r : Res S κs). (raw (alive 𝓤 H A S κs qs) ⊛ ‵ (R .own r (u ∷ []))) ⊛ raw (ensured 𝓤 H A T clauses κs a tt r)))) (id⊢ 𝓤 _) $ await t tt $ pick t (λ r.
+              use1 W (later (some (λ (r : Res S κs). (raw (alive 𝓤 H A S κs qs) ⊛ ‵ (R .own r (u ∷ []))) ⊛ raw (ensured 𝓤 H A T clauses κs a tt r))))
+              (id⊢ 𝓤 _) $ await t tt $ pick t (λ r.
               split t $ move t (1 ∷ []) $ use1 W (raw (fact 𝓤 (Says κs a r))) (heard-of r) $ heard t (Says κs a r) (λ e. split t $ move t (1 ∷ []) $
               peeks t R (Is R) (shows 𝓤 H A R) r (u ∷ []) (λ is. spelled r u e is))))
             where
@@ -114,11 +117,13 @@ module _ (T : Ended) where
     pub meets : (run : Fun 𝓤) (sp : (κs : Lfts (S .lifetimes)) → Spells (Ts κs)) → ((κs : Lfts (S .lifetimes)) → Tellss (Ts κs) (Ises (Ts κs)) (sp κs))
         → ((κs : Lfts (S .lifetimes)) (qs : Shares (S .lifetimes)) (bounds : AllOutlive (S .lifetimes) (S .outlives) κs) (a : Args S κs)
         → Are (Ts κs) (Ises (Ts κs)) a (valss (Ts κs) (sp κs) a)
-        → ent 𝓤 (onEntry 𝓤 H A S κs qs a (valss (Ts κs) (sp κs) a)) (run (flat (Ts κs) (valss (Ts κs) (sp κs) a)) (Told .post ((κs, qs, bounds, a, valss (Ts κs) (sp κs) a), tt))))
+        → ent 𝓤 (onEntry 𝓤 H A S κs qs a (valss (Ts κs) (sp κs) a))
+        (run (flat (Ts κs) (valss (Ts κs) (sp κs) a)) (Told .post ((κs, qs, bounds, a, valss (Ts κs) (sp κs) a), tt))))
         → Triple 𝓤 run Told
     meets run sp tl k y =
         via 𝓤 (onEntry 𝓤 H A S (y .0 .0) (y .0 .1) (y .0 .3) (y .0 .4)) (fst∗ 𝓤 _ (emp 𝓤))
-        (said 𝓤 H A S (y .0 .0) (y .0 .1) (sp (y .0 .0)) (tl (y .0 .0)) (y .0 .3) (λ us. run (flat (Ts (y .0 .0)) us) (Told .post y)) (y .0 .4) (λ are. k (y .0 .0) (y .0 .1) (y .0 .2) (y .0 .3) are))
+        (said 𝓤 H A S (y .0 .0) (y .0 .1) (sp (y .0 .0)) (tl (y .0 .0)) (y .0 .3) (λ us. run (flat (Ts (y .0 .0)) us) (Told .post y)) (y .0 .4)
+        (λ are. k (y .0 .0) (y .0 .1) (y .0 .2) (y .0 .3) are))
 
 -- nothing, once for each parameter
 abbrev nones : {M : Type 1} (𝓤 : URA M) → ℕ → SProp 𝓤
@@ -147,7 +152,16 @@ module _ (result : Slot 1) (Says : (κs : Lfts 1) → List ℕ → ℕ → ℕ �
 
   abbrev ofSlice : Ended
   ofSlice =
-      record { signature = record { lifetimes = 1; outlives = []; params = bytes ∷ plain (λ _. u16) ∷ plain (λ _. u16) ∷ plain (λ _. usize) ∷ []; result = result }; kept = (yes, (yes, (yes, (yes, tt)))) }
+      record {
+        signature = record {
+          lifetimes = 1;
+          outlives = [];
+          params = bytes ∷ plain (λ _. u16) ∷ plain (λ _. u16) ∷ plain (λ _. usize)
+              ∷ [];
+          result = result;
+        };
+        kept = (yes, (yes, (yes, (yes, tt))));
+      }
 
   abbrev SaysView : Fact ofView
   SaysView κs a r = Says κs (now (a .0 .records)) (a .0 .size) (a .0 .count) (a .1 .0) r
@@ -161,7 +175,8 @@ module _ (result : Slot 1) (Says : (κs : Lfts 1) → List ℕ → ℕ → ℕ �
     lifetimes = 1;
     outlives = [];
     params = 2;
-    locals = local τ valueLocal ∷ local (View′.mir (named 0)) valueLocal ∷ local (tyInt w64) valueLocal ∷ local (sliceTy (tyRef erased imm (tyInt w8))) valueLocal ∷ local (tyInt w16) valueLocal ∷ local (tyInt w16) valueLocal ∷ [];
+    locals = local τ valueLocal ∷ local (View′.mir (named 0)) valueLocal ∷ local (tyInt w64) valueLocal
+        ∷ local (sliceTy (tyRef erased imm (tyInt w8))) valueLocal ∷ local (tyInt w16) valueLocal ∷ local (tyInt w16) valueLocal ∷ [];
     body =
         seq (assign (place 3 []) (rvOpd (copy (place 1 (field 0 ∷ [])))))
         (seq (assign (place 4 []) (rvOpd (copy (place 1 (field 2 ∷ [])))))
@@ -196,32 +211,45 @@ module _ (result : Slot 1) (Says : (κs : Lfts 1) → List ℕ → ℕ → ℕ �
       hands : k < 2 ^ 64 → d .size < 2 ^ 16 → d .count < 2 ^ 16
           → ent 𝓤 (onEntry 𝓤 H A (ofView .signature) κs qs (d, (k, tt)) at) (onEntry 𝓤 H A (ofSlice .signature) κs qs given-on passed)
       hands ok fs fc =
-          qed W (raw (alive 𝓤 H A (ofView .signature) κs qs) ∷ ‵ (owns (ViewAt κs ∷ usize ∷ []) (d, (k, tt)) at) ∷ []) ∵ frame ! $ fsplit ! $ move ! (1 ∷ []) $ drop ! $
-          use1 W (given (View′.lowered d ∷ [] ≡ View′.lowered d ∷ []) (‵ (all-own (D .parts) L fields))) (own-open 𝓤 H A W D L fields (View′.lowered d)) $ learn ! (λ _.
-          use1 W (‵ (ownAt (D .parts) L 0 (d .records)) ⊛ ‵ (rest (D .parts) L 0 fields)) (own-out 𝓤 H A W (D .parts) L 0 fields) $ split ! $ move ! (1 ∷ []) $ drop ! $
-          nothing ! $ owned ! usize (Is usize) (uint-makes 𝓤 H A W w64) k _ (refl, ok) $ fjoin ! $ owned ! u16 (Is u16) (uint-makes 𝓤 H A W w16) (d .count) _ (refl, fc) $ fjoin ! $
+          qed W (raw (alive 𝓤 H A (ofView .signature) κs qs) ∷ ‵ (owns (ViewAt κs ∷ usize ∷ []) (d, (k, tt)) at) ∷ []) ∵ frame ! $ fsplit ! $
+          move ! (1 ∷ []) $ drop ! $
+          use1 W (given (View′.lowered d ∷ [] ≡ View′.lowered d ∷ []) (‵ (all-own (D .parts) L fields)))
+          (own-open 𝓤 H A W D L fields (View′.lowered d)) $ learn ! (λ _.
+          use1 W (‵ (ownAt (D .parts) L 0 (d .records)) ⊛ ‵ (rest (D .parts) L 0 fields)) (own-out 𝓤 H A W (D .parts) L 0 fields) $ split ! $
+          move ! (1 ∷ []) $ drop ! $
+          nothing ! $ owned ! usize (Is usize) (uint-makes 𝓤 H A W w64) k _ (refl, ok) $ fjoin ! $
+          owned ! u16 (Is u16) (uint-makes 𝓤 H A W w16) (d .count) _ (refl, fc) $ fjoin ! $
           owned ! u16 (Is u16) (uint-makes 𝓤 H A W w16) (d .size) _ (refl, fs) $ fjoin ! $ move ! (1 ∷ 0 ∷ []) $ fjoin ! $ done !)
 
       walk : Holds (hasTy (View′.mir (named 0)) (View′.lowered d)) × WT (View′.lowered d) → k < 2 ^ 64
-          → ent 𝓤 (onEntry 𝓤 H A (ofView .signature) κs qs (d, (k, tt)) at) (WpFn 𝓤 H C Λ (apart f τ) (View′.lowered d ∷ vint w64 k ∷ []) (Told ofView SaysView 𝓤 H A .post ((κs, qs, tt, (d, (k, tt)), at), tt)))
+          → ent 𝓤 (onEntry 𝓤 H A (ofView .signature) κs qs (d, (k, tt)) at)
+          (WpFn 𝓤 H C Λ (apart f τ) (View′.lowered d ∷ vint w64 k ∷ []) (Told ofView SaysView 𝓤 H A .post ((κs, qs, tt, (d, (k, tt)), at), tt)))
       walk wt ok =
           qed W (raw (onEntry 𝓤 H A (ofView .signature) κs qs (d, (k, tt)) at) ∷ []) ∵ enter ! C Λ (apart f τ) (View′.lowered d ∷ vint w64 k ∷ []) _ $
-          alloc1 ! (λ l₀. alloc1 ! (λ l₁. alloc1 ! (λ l₂. alloc1 ! (λ l₃. alloc1 ! (λ l₄. alloc1 ! (λ l₅. alloc0 ! $ params1 ! $ pass1 ! (init ! 8 refl wt) $ pass1 ! (init ! 6 refl (tt, record { fits = ok })) $ pass0 ! $
+          alloc1 ! (λ l₀. alloc1 ! (λ l₁. alloc1 !
+          (λ l₂. alloc1 ! (λ l₃. alloc1 !
+          (λ l₄. alloc1 ! (λ l₅. alloc0 ! $ params1 ! $ pass1 ! (init ! 8 refl wt) $ pass1 ! (init ! 6 refl (tt, record { fits = ok })) $ pass0 ! $
           -- [_5; …; _4; …; _3; …; _2; …; _1; …; _0; …; what the view owns]
           assigns ! (of-opd ! (load ! (from ! (fld ! refl (stop !))) (look-in ! 8 (sub ! 0 refl (whole !))))) (from ! (stop !)) (init ! 4 refl (tt, wt .1 .0)) $
-          assigns ! (of-opd ! (load ! (from ! (fld ! refl (stop !))) (look-in ! 8 (sub ! 2 refl (whole !))))) (from ! (stop !)) (init ! 2 refl (tt, wt .1 .1 .1 .0)) $
-          assigns ! (of-opd ! (load ! (from ! (fld ! refl (stop !))) (look-in ! 8 (sub ! 3 refl (whole !))))) (from ! (stop !)) (init ! 0 refl (tt, wt .1 .1 .1 .1 .0)) $
+          assigns ! (of-opd ! (load ! (from ! (fld ! refl (stop !))) (look-in ! 8 (sub ! 2 refl (whole !))))) (from ! (stop !))
+          (init ! 2 refl (tt, wt .1 .1 .1 .0)) $
+          assigns ! (of-opd ! (load ! (from ! (fld ! refl (stop !))) (look-in ! 8 (sub ! 3 refl (whole !))))) (from ! (stop !))
+          (init ! 0 refl (tt, wt .1 .1 .1 .1 .0)) $
           move ! (12 ∷ []) $ use1 W (handed ofSlice SaysSlice 𝓤 H A W κs qs tt given-on passed) (hands ok (wt .1 .1 .1 .0 .fits) (wt .1 .1 .1 .1 .0 .fits)) $
           calls ofSlice SaysSlice 𝓤 H A W κs qs tt given-on passed ! fm known (val κs) (tells κs)
-          (and-then ! (load ! (from ! (stop !)) (look ! 5 refl)) (and-then ! (load ! (from ! (stop !)) (look ! 3 refl)) (and-then ! (load ! (from ! (stop !)) (look ! 1 refl)) (and-then ! (load ! (from ! (stop !)) (look ! 7 refl)) (no-more !))))) (λ r e is.
+          (and-then ! (load ! (from ! (stop !)) (look ! 5 refl))
+          (and-then ! (load ! (from ! (stop !)) (look ! 3 refl))
+          (and-then ! (load ! (from ! (stop !)) (look ! 1 refl)) (and-then ! (load ! (from ! (stop !)) (look ! 7 refl)) (no-more !))))) (λ r e is.
           -- [the result; the token; _5; …; _4; …; _3; …; _2; …; _1; …; _0; …]
           land ! (from ! (stop !)) (init ! 12 refl (fits κs r (val κs r) is)) $
           returns ! (look ! 12 refl) $ forget ! 2 refl $ forget ! 4 refl $ forget ! 6 refl $ forget ! 8 refl $ forget ! 10 refl $ forget ! 12 refl $
-          move ! (12 ∷ 13 ∷ []) $ free1 ! $ move ! (10 ∷ 11 ∷ []) $ free1 ! $ move ! (8 ∷ 9 ∷ []) $ free1 ! $ move ! (6 ∷ 7 ∷ []) $ free1 ! $ move ! (4 ∷ 5 ∷ []) $ free1 ! $ move ! (2 ∷ 3 ∷ []) $ free1 ! $ free0 ! $
+          move ! (12 ∷ 13 ∷ []) $ free1 ! $ move ! (10 ∷ 11 ∷ []) $ free1 ! $ move ! (8 ∷ 9 ∷ []) $ free1 ! $ move ! (6 ∷ 7 ∷ []) $ free1 ! $
+          move ! (4 ∷ 5 ∷ []) $ free1 ! $ move ! (2 ∷ 3 ∷ []) $ free1 ! $ free0 ! $
           by ! (ends ofView SaysView 𝓤 H A W κs qs tt (d, (k, tt)) at (tt, (tt, tt)) (none 𝓤 2) r (val κs r) e))))))))
 
     pub apart-meets : Triple 𝓤 (WpFn 𝓤 H C Λ (apart f τ)) (Told ofView SaysView 𝓤 H A)
     apart-meets = meets ofView SaysView 𝓤 H A (WpFn 𝓤 H C Λ (apart f τ))
         (λ κs. (LL.vals (View.the-type (namedLft 1 0 tt κs)) (View′.the-laws (namedLft 1 0 tt κs)), (uint-vals w64, tt)))
         (λ κs. (LL.tells (View.the-type (namedLft 1 0 tt κs)) (View′.the-laws (namedLft 1 0 tt κs)), (uint-tells w64, tt)))
-        (λ κs qs bounds a are. walk κs qs (a .0) (a .1 .0) (LL.lawful (View.the-type (namedLft 1 0 tt κs)) (View′.the-laws (namedLft 1 0 tt κs)) 𝓤 H A W .typed (a .0) _ (are .0) .0) (are .1 .0 .1))
+        (λ κs qs bounds a are. walk κs qs (a .0) (a .1 .0) (LL.lawful (View.the-type (namedLft 1 0 tt κs)) (View′.the-laws (namedLft 1 0 tt κs)) 𝓤 H
+        A W .typed (a .0) _ (are .0) .0) (are .1 .0 .1))

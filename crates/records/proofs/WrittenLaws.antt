@@ -43,7 +43,8 @@ joined-record size (r ∷ records) rest e zero h = rw (append-assoc, mul-zero) (
 joined-record size (r ∷ records) rest e (suc k) h =
     let l : length r ≡ size = e 0 (omega arith) in
     let t : size * suc k ≡ length r + size * k = mul-suc size k ∙ omega arith in
-    rw (t, append-assoc, drop-append-add r (joined records ++ rest) (size * k)) (joined-record size records rest (λ j q. e (suc j) (omega arith)) k (omega arith))
+    rw (t, append-assoc, drop-append-add r (joined records ++ rest) (size * k))
+    (joined-record size records rest (λ j q. e (suc j) (omega arith)) k (omega arith))
 
 -- An array, where it is written
 

@@ -86,7 +86,8 @@ module _ (f : Form) (gs : List Stored) (s : List ℕ) (fit : Holdable f gs) (rea
     unfolding answerRight
     right =
         let b : getD s (answerStart f i s) 0 ≡ 0x76 =
-        ap (λ (k : ℕ). getD s k 0) (sym (add-zero (answerStart f i s))) ∙ byte-read 0 (omega arith) ∙ answer-begun (g .answer) (g .day) (fit .listed i h .number) in
+        ap (λ (k : ℕ). getD s k 0) (sym (add-zero (answerStart f i s))) ∙ byte-read 0 (omega arith)
+        ∙ answer-begun (g .answer) (g .day) (fit .listed i h .number) in
         rw (b, name-read, answer-allowed (g .answer) (g .day) (fit .listed i h .number))
 
   filled : (i : ℕ) → i ≤ length gs → filledTo f i s ≡ offsetOf i gs
@@ -179,7 +180,8 @@ module _ (f : Form) (s : List ℕ) (z : storeNumber f s ≡ 0) where
       let m : ℕ = entryLength f i s in
       let inside : o + m ≤ streamLength f s = omega (arith, held f s z i (omega arith) .inside, offset-at i (omega arith)) in
       let here : partAt o m (streamOf f s) ≡ g .answer =
-      sym (part-in (streamStart f s) (streamLength f s) o m s inside (unbroken f s z .within)) ∙ rw (contents-at f s i (omega arith), ← offset-at i (omega arith)) in
+      sym (part-in (streamStart f s) (streamLength f s) o m s inside (unbroken f s z .within))
+      ∙ rw (contents-at f s i (omega arith), ← offset-at i (omega arith)) in
       rw (offset-next gs i l, length-at i (omega arith), take-add o m (streamOf f s), stream-to i (omega arith), here, take-suc gs i nothing l)
       (sym (back-append (take i gs) (g ∷ []) ∙ ap (λ (x : List ℕ). backToBack (take i gs) ++ x) (append-nil (g .answer))))
 

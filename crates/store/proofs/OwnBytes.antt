@@ -78,4 +78,12 @@ module _ (f : Form) (sized : Sized f) (s : List ℕ) (z : storeNumber f s ≡ 0)
   unfolding storeOf
   own-bytes =
       let c = contents-length f s in
-      rw (take-add (streamStart f s) t s, take-add (headerSize f) (entriesSize f n) s, header-is, entries-are, contents-reads f s z .stream, c, ← total) (simp append-assoc)
+      rw (
+        take-add (streamStart f s) t s,
+        take-add (headerSize f) (entriesSize f n) s,
+        header-is,
+        entries-are,
+        contents-reads f s z .stream,
+        c,
+        ← total,
+      ) (simp append-assoc)

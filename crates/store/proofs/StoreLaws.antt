@@ -60,7 +60,15 @@ module _ (f : Form) where
   pub unbroken-zero : (s : List ℕ) → Unbroken s → storeNumber f s ≡ 0
   unfolding storeNumber headerFits countsFit
   unbroken-zero s u =
-      rw (le-leb (headerSize f) (length s) (u .header), le-leb (storeLength f s) (length s) (u .within), le-leb (answers f s) (f .answersMost) (u .count), le-leb (streamLength f s) (f .streamMost) (u .stream), u .places, u .right, u .differ)
+      rw (
+        le-leb (headerSize f) (length s) (u .header),
+        le-leb (storeLength f s) (length s) (u .within),
+        le-leb (answers f s) (f .answersMost) (u .count),
+        le-leb (streamLength f s) (f .streamMost) (u .stream),
+        u .places,
+        u .right,
+        u .differ,
+      )
 
   -- the number is 0 or 5
   pub store-either : (s : List ℕ) → (storeNumber f s ≡ 0) ⊎ (storeNumber f s ≡ 5)

@@ -80,7 +80,8 @@ module _ (f : Form) where
       let l : length (p ++ b) ≡ length p + entrySize f = length-append p b ∙ omega (arith, entry-long o g) in
       let at : length p + entriesSize f (suc i) ≡ length (p ++ b) + entriesSize f i = omega (arith, entries-suc f i) in
       let off : o + length (g .answer ++ backToBack (take i gs)) ≡ o + m + offsetOf i gs = omega (arith, length-append (g .answer) (backToBack (take i gs))) in
-      rw (at, off, append-assoc b (entriesFrom f (o + m) gs) r, ← append-assoc p b (entriesFrom f (o + m) gs ++ r)) (entry-part gs i (o + m) (p ++ b) r (omega arith))
+      rw (at, off, append-assoc b (entriesFrom f (o + m) gs) r, ← append-assoc p b (entriesFrom f (o + m) gs ++ r))
+      (entry-part gs i (o + m) (p ++ b) r (omega arith))
 
   -- header, entries, stream
   pub head : List Stored → List ℕ
@@ -193,7 +194,8 @@ module _ (f : Form) (sized : Sized f) (gs : List Stored) (fit : Holdable f gs) (
     unfolding entryBytes
     offset-read =
         let in-stream = answer-inside gs i h in
-        field 4 w (entryStart f i + 4) (offsetOf i gs) (bytesOf 4 (g .day)) _ (sized .field) (omega (arith, entry-size f)) refl (omega (arith, small-stream)) refl refl
+        field 4 w (entryStart f i + 4) (offsetOf i gs) (bytesOf 4 (g .day)) _ (sized .field) (omega (arith, entry-size f)) refl
+        (omega (arith, small-stream)) refl refl
 
     length-read : entryLength f i s ≡ length (g .answer)
     unfolding entryBytes

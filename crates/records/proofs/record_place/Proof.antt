@@ -15,5 +15,9 @@ record-place-spec = tie.close (tie.spec
     (λ c κs. search all)
     (λ c κs. search all)
     (λ c. search all)
-    (λ c. omega (arith, place-within _ _ _ _ (c .before .before .before .before .before .before .before .array-at .ensures) _ (search needs) (c .before .before .before .before .record-in .ensures) (search needs)))
+    (λ c. omega (
+      arith,
+      place-within _ _ _ _ (c .before .before .before .before .before .before .before .array-at .ensures) _ (search needs)
+          (c .before .before .before .before .record-in .ensures) (search needs),
+    ))
     (λ c. search all))

@@ -34,5 +34,14 @@ places-right-spec = tie.close (tie.spec Inv-loop μ-loop
     (λ c. search needs)
     (λ c. search needs)
     (λ c. search needs)
-    (λ c. (search needs, search needs, search (needs, filled-next narrow), search-miss _ _ _ (c .before .before .before .before .before .before .loop .inv .3) (search needs) (place-here narrow _ _ _ _ (c .before .before .before .before .before .before .loop .inv .2) (c .before .before .before .before .entry-length .ensures .0) _ (c .before .before .before .entry-offset .ensures .0) (c .before .before .if1 .left) _ (c .before .before .before .before .before .before .before .stream-length .ensures .0) (search needs) (search needs))))
+    (λ c. (
+      search needs,
+      search needs,
+      search (needs, filled-next narrow),
+      search-miss _ _ _ (c .before .before .before .before .before .before .loop .inv .3) (search needs)
+          (place-here narrow _ _ _ _ (c .before .before .before .before .before .before .loop .inv .2)
+          (c .before .before .before .before .entry-length .ensures .0) _ (c .before .before .before .entry-offset .ensures .0)
+          (c .before .before .if1 .left) _ (c .before .before .before .before .before .before .before .stream-length .ensures .0)
+          (search needs) (search needs)),
+    ))
     (λ c. search (needs, none-end, places-end narrow)))
