@@ -17,7 +17,7 @@ use Rattle.services.specs.Services.{onData}
 use Rattle.services.specs.After.{stateAfter as unitAfter}
 use Rattle.unit.specs.Call.{reactionAt, reactionTo, replyData, replyTo, numberBefore, unitNumber, unitState, unitReply, unitResult}
 use Rattle.arrival.specs.State.{heldRight, transferPossible, possible as toolPossible}
-use Rattle.tool.specs.Sent.{transferRequest, acknowledgement, transferData, frameSent}
+use Rattle.requests.specs.Sent.{transferRequest, acknowledgement, transferData, frameSent}
 use Rattle.arrival.specs.Replies.{sidSent}
 use Rattle.arrival.specs.Meaning.{header, fits, meaningOf, transferMeaning, isRefusal, refusalMeaning, dataMeaning, arrivalMeaning, arrivalBytes}
 use Rattle.tool.specs.After.{takes, afterFailedWait, stateAfter, sentAfter, roomAfter}

@@ -35,7 +35,7 @@ use Rattle.unit.specs.State.{placeSent, possible}
 use Rattle.services.specs.Services.{requestName, answerFrom, onTransfer, onCode, onSending, onAcknowledge}
 use Rattle.services.specs.Services.{nameAsked, onData}
 use Rattle.unit.specs.Call.{placeAsked, reactionAt, reactionTo, numberBefore, unitNumber}
-use Rattle.tool.specs.Sent.{transferRequest, acknowledgement, transferData}
+use Rattle.requests.specs.Sent.{transferRequest, acknowledgement, transferData}
 use Rattle.line.proofs.Cases.{never}
 
 -- What a possible state says

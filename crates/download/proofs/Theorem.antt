@@ -14,7 +14,7 @@ use Rattle.split.specs.Split.{countOf}
 use Rattle.arrival.specs.declared.Request.the-variants as requests
 use Rattle.arrival.specs.declared.Outcome.{Outcome}
 use Rattle.arrival.specs.declared.Outcome.the-variants.{Waiting, Done, NoAnswer}
-use Rattle.tool.specs.Sent.{frameSent}
+use Rattle.requests.specs.Sent.{frameSent}
 use Rattle.tool.specs.Call.{beginState, beginSent, beginResult}
 use Rattle.line.specs.Line.{silent, sends, Event}
 use Rattle.line.specs.Book as books

@@ -31,7 +31,7 @@ use Rattle.arrival.specs.declared.ToolState.{ToolState}
 use Rattle.arrival.specs.declared.Meaning.{Meaning}
 use Rattle.arrival.specs.declared.Meaning.the-variants.{FailedWait, WholeAnswer, SubMessageTaken, LastTaken}
 use Rattle.arrival.specs.State.{heldRight, transferPossible, possible}
-use Rattle.tool.specs.Sent.{frameSent}
+use Rattle.requests.specs.Sent.{frameSent}
 use Rattle.arrival.specs.Meaning.{header, newBytes, fits, meaningOf, transferMeaning, isRefusal, dataMeaning, arrivalMeaning, arrivalBytes}
 use Rattle.tool.specs.After.{takes as takesBytes, afterFailedWait, stateAfter, sentAfter, roomAfter}
 use Rattle.tool.specs.Call.{eventNumber, eventState, eventSent, eventRoom, eventResult}

@@ -31,7 +31,7 @@ use Rattle.services.specs.Services.{onSession, onUpload, answerFrom}
 use Rattle.services.specs.Services.{onData}
 use Rattle.unit.specs.Call.{reactionTo, replyData, replyTo, unitReply}
 use Rattle.arrival.specs.declared.Request.the-variants as requests
-use Rattle.tool.specs.Sent.{transferRequest, acknowledgement, transferData, frameSent}
+use Rattle.requests.specs.Sent.{transferRequest, acknowledgement, transferData, frameSent}
 use Rattle.download.specs.TradeCases.{Called, Asked, lens, store12, TradeCases}
 use Rattle.download.proofs.Runs.{lookups, calls}
 use Rattle.download.proofs.StoreFacts.{held-place}

@@ -23,7 +23,7 @@ use Rattle.services.specs.State.{isGranted}
 use Rattle.unit.specs.State as unitStates
 use Rattle.unit.specs.Call.{unitReply}
 use Rattle.arrival.specs.declared.Request.the-variants as requests
-use Rattle.tool.specs.Sent.{transferRequest, acknowledgement, frameSent}
+use Rattle.requests.specs.Sent.{transferRequest, acknowledgement, frameSent}
 
 -- a unit's call that neither 5 nor 11 nor 4 refuses
 pub record Called (store : List ℕ) (u : UnitState) (outLen : ℕ) : Type 0 where

@@ -11,8 +11,8 @@ use Rattle.octets.specs.Buffer.{front, put, copied}
 use Rattle.octets.specs.declared.Written.{Written}
 use Rattle.octets.proofs.BufferLaws.{stores-front, stores-put, put-front, take-front, copied-fits}
 use Rattle.octets.proofs.CallLaws.{kept, changed}
-use Rattle.frame.specs.Frame.{frameMost, lab, target, source, closed, frameOf, writeNumber, writeResult, writeOut}
-use Rattle.frame.specs.Messages.{startResult, startOut}
+use Rattle.frame.specs.Frame.{frameMost, lab, target, source, closed, frameOf, sendNumber, sendResult, sendOut, writeNumber, writeResult, writeOut}
+use Rattle.frame.specs.Messages.{startFrame}
 use Rattle.frame.specs.declared.End.{End}
 use Rattle.frame.specs.declared.Addresses.{Addresses}
 
@@ -70,6 +70,31 @@ module _ (a : Addresses) (end : End) (d o : List ℕ) (some : 0 < length d) (mos
   unfolding writeOut
   written-out o′ e = rw fits at e
 
+-- A frame of some data within bounds goes out, or does not fit
+
+module _ (a : Addresses) (end : End) (d o : List ℕ) (some : 0 < length d) (most : length d ≤ 255) where
+  number-sends : writeNumber (length d) (length o) ≡ sendNumber (frameOf a end d) (length o)
+  unfolding writeNumber sendNumber
+  number-sends = rw (lt-ltb 0 (length d) some, le-leb (length d) 255 most, length-frame a end d)
+
+  pub written-sends : (w : Written) → w ≡ writeResult d (length o) → w ≡ sendResult (frameOf a end d) (length o)
+  unfolding writeResult sendResult
+  written-sends w e = rw (← number-sends, length-frame a end d) e
+
+  pub written-sent : (o′ : List ℕ) → o′ ≡ writeOut a end d o → o′ ≡ sendOut (frameOf a end d) o
+  unfolding writeOut sendOut
+  written-sent o′ e = rw (← number-sends) e
+
+-- and one that fits
+module _ (f o : List ℕ) (fits : length f ≤ length o) where
+  pub sent-whole : (w : Written) → w ≡ sendResult f (length o) → w .len ≡ length f
+  unfolding sendResult sendNumber
+  sent-whole w e = rw (e, le-leb (length f) (length o) fits)
+
+  pub sent-front : (o′ : List ℕ) → o′ ≡ sendOut f o → o′ ≡ front f o
+  unfolding sendOut sendNumber
+  sent-front o′ e = rw (le-leb (length f) (length o) fits) at e
+
 -- four stores at the front are the header
 pub header-is : (o : List ℕ) (a b c d : ℕ) → 4 ≤ length o → set (set (set (set o 0 a) 1 b) 2 c) 3 d ≡ front (a ∷ b ∷ c ∷ d ∷ []) o
 header-is o a b c d h = stores-front (a ∷ b ∷ c ∷ d ∷ []) o (omega arith)
@@ -98,11 +123,12 @@ module _ (a : Addresses) (end : End) (p r o o₁ o₂ o₃ o₄ : List ℕ) (t s
       changed _ o₄ (front (b ++ (checksumOf b ∷ [])) o) o (number-good p r (length o) z l h) f₄
 
 -- the five-byte start: the string that is copied, and a buffer that is too short for it
-pub start-short : (o : List ℕ) → length o < 5 → (_≡_ {A = Written} (record { number = 4; len = 0 }) (startResult (length o))) × (o ≡ startOut lab o)
-unfolding startResult startOut
+pub start-short : (o : List ℕ) → length o < 5
+    → (_≡_ {A = Written} (record { number = 4; len = 0 }) (sendResult (startFrame lab) (length o))) × (o ≡ sendOut (startFrame lab) o)
+unfolding closed sendNumber sendResult sendOut
 start-short o h = rw (lt-leb 5 (length o) h) (refl, refl)
 
 pub start-written : (o o′ : List ℕ) → 5 ≤ length o → o′ ≡ copied (0x81 ∷ 0xEE ∷ 0xF0 ∷ 0x81 ∷ 0xE0 ∷ []) o
-    → (_≡_ {A = Written} (record { number = 0; len = 5 }) (startResult (length o))) × (o′ ≡ startOut lab o)
-unfolding closed startResult startOut
+    → (_≡_ {A = Written} (record { number = 0; len = 5 }) (sendResult (startFrame lab) (length o))) × (o′ ≡ sendOut (startFrame lab) o)
+unfolding closed sendNumber sendResult sendOut
 start-written o o′ h e = rw (le-leb 5 (length o) h) (refl, e ∙ copied-fits _ o (omega arith))

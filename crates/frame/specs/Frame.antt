@@ -42,6 +42,16 @@ closed body = body ++ (checksumOf body ∷ [])
 unfoldable pub frameOf : Addresses → End → List ℕ → List ℕ
 frameOf a end d = closed (0x80 ∷ target a end ∷ source a end ∷ length d ∷ d)
 
+-- a frame goes out at the front of a buffer of outLen bytes, or "4 (shorter than the frame)"
+unfoldable pub sendNumber : List ℕ → ℕ → ℕ
+sendNumber frame outLen = unless (leb (length frame) outLen) bufferShort done
+
+unfoldable pub sendResult : List ℕ → ℕ → Written
+sendResult frame outLen = writtenBy (sendNumber frame outLen) (length frame)
+
+unfoldable pub sendOut : List ℕ → List ℕ → List ℕ
+sendOut frame out = changedBy (sendNumber frame (length out)) (front frame out) out
+
 -- "Writing a frame: 1 (data empty or over 255 bytes), 4 (shorter than the frame)"; n data bytes, a buffer of outLen
 unfoldable pub writeNumber : ℕ → ℕ → ℕ
 writeNumber n outLen =

@@ -1,27 +1,12 @@
 -- The fixed messages of document 01's table (The unit).
 use Prim.Native.Nat.{ℕ}
 use mathlib.Core.List.{List, [], _∷_}
-use lib.ListN.{length}
-use lib.Dec.{leb}
-use Rattle.octets.specs.Order.{unless}
-use Rattle.octets.specs.Numbers.{done, bufferShort, changedBy, writtenBy}
-use Rattle.octets.specs.Buffer.{front}
-use Rattle.octets.specs.declared.Written.{Written}
 use Rattle.frame.specs.declared.Addresses.{Addresses}
 use Rattle.frame.specs.Frame.{closed}
 
 -- "the five bytes 81 EE F0 81 E0, start communication, without LEN"
 abbrev pub startFrame : Addresses → List ℕ
 startFrame a = closed (0x81 ∷ a .unit ∷ a .tool ∷ 0x81 ∷ [])
-
-abbrev pub startNumber : ℕ → ℕ
-startNumber outLen = unless (leb 5 outLen) bufferShort done
-
-unfoldable pub startResult : ℕ → Written
-startResult outLen = writtenBy (startNumber outLen) 5
-
-unfoldable pub startOut : Addresses → List ℕ → List ℕ
-startOut a out = changedBy (startNumber (length out)) (front (startFrame a) out) out
 
 -- the data of the other fixed requests
 

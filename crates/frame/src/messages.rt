@@ -4,8 +4,8 @@ use octets::Written;
 use octets::numbers::BUFFER_SHORT;
 ghost use mathlib.Core.Path.{_≡_};
 ghost use lib.ListN.{length};
-ghost use Rattle.frame.specs.Frame.{lab};
-ghost use Rattle.frame.specs.Messages.{startResult, startOut};
+ghost use Rattle.frame.specs.Frame.{lab, sendResult, sendOut};
+ghost use Rattle.frame.specs.Messages.{startFrame};
 
 // Start communication: the whole frame, the one without LEN.
 pub const START: [u8; 5] = *b"\x81\xee\xf0\x81\xe0";
@@ -34,8 +34,8 @@ pub const STOPPED: [u8; 1] = *b"\xc2";
 
 // Writes the five-byte start frame at the front of `out`; 4 where it is shorter.
 pub fn write_start(out: &mut [u8]) -> Written
-    ensures { λ r. ⌜ r ≡ startResult (length (now (out .entry))) ⌝ }
-    ensures { λ _. ⌜ now (out .exit) ≡ startOut lab (now (out .entry)) ⌝ }
+    ensures { λ r. ⌜ r ≡ sendResult (startFrame lab) (length (now (out .entry))) ⌝ }
+    ensures { λ _. ⌜ now (out .exit) ≡ sendOut (startFrame lab) (now (out .entry)) ⌝ }
 {
     if out.len() < 5 {
         return Written {

@@ -22,7 +22,7 @@ use Rattle.unit.proofs.BoundLaws as units
 use Rattle.arrival.specs.declared.Request.{Request}
 use Rattle.arrival.specs.declared.Request.the-variants as requests
 use Rattle.arrival.specs.State.{noName}
-use Rattle.tool.specs.Sent.{frameSent}
+use Rattle.requests.specs.Sent.{frameSent}
 use Rattle.tool.specs.Call.{requestNumber, beginNumber, beginResult}
 use Rattle.host.specs.Packed.{packedUnit, unpackedUnit, requestFrom}
 use Rattle.host.specs.Calls.{unitFreshState, toolFreshState, toolBegin}

@@ -15,7 +15,7 @@ use Rattle.services.specs.declared.Phase.the-variants.{Granted}
 use Rattle.arrival.specs.declared.Request.{Request}
 use Rattle.arrival.specs.declared.Request.the-variants as requests
 use Rattle.arrival.specs.State.{noName}
-use Rattle.tool.specs.Sent.{frameSent}
+use Rattle.requests.specs.Sent.{frameSent}
 use Rattle.host.specs.Calls.{unitFreshState, unitKept, unitStep, toolFreshState, toolBegin}
 use Rattle.packed.specs.Simulation.{UnitIs}
 

@@ -20,7 +20,7 @@ use Rattle.arrival.specs.declared.ToolState.{ToolState}
 use Rattle.arrival.specs.declared.Meaning.{Meaning}
 use Rattle.arrival.specs.declared.Meaning.the-variants.{FailedWait, WholeAnswer, SubMessageTaken, LastTaken, NoRoomForSubMessage}
 use Rattle.arrival.specs.State.{heldMost}
-use Rattle.tool.specs.Sent.{acknowledgement, frameSent}
+use Rattle.requests.specs.Sent.{acknowledgement, frameSent}
 use Rattle.tool.specs.After.{ended, waits, afterFailedWait, takes, stateAfter, sentAfter}
 
 -- "after the third sending the request ends"

@@ -1,5 +1,4 @@
 -- Laws of the tool, for this crate's proofs and for the crates above it.
-pub mod SentLaws
 pub mod RoomLaws
 pub mod TakenLaws
 pub mod AfterLaws

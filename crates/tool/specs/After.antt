@@ -14,7 +14,7 @@ use Rattle.arrival.specs.declared.ToolState.{ToolState}
 use Rattle.arrival.specs.declared.Meaning.{Meaning}
 use Rattle.arrival.specs.declared.Meaning.the-variants.{Ignored, FailedWait, Confirmed, WholeAnswer, SubMessageTaken}
 use Rattle.arrival.specs.declared.Meaning.the-variants.{LastTaken, NoRoomForAnswer, NoRoomForSubMessage, RefusedBy}
-use Rattle.tool.specs.Sent.{acknowledgement, frameSent}
+use Rattle.requests.specs.Sent.{acknowledgement, frameSent}
 
 -- its bytes go into the room
 unfoldable pub takes : Meaning → Bool

@@ -19,7 +19,7 @@ use Rattle.tool.specs.declared.ToolStep.{ToolStep}
 use Rattle.arrival.specs.declared.Meaning.{Meaning}
 use Rattle.arrival.specs.declared.Meaning.the-variants.{FailedWait}
 use Rattle.arrival.specs.State.{isTransfer, isWaiting, possible}
-use Rattle.tool.specs.Sent.{frameSent}
+use Rattle.requests.specs.Sent.{frameSent}
 use Rattle.arrival.specs.Meaning.{arrivalMeaning, arrivalBytes}
 use Rattle.tool.specs.After.{stateAfter, sentAfter, roomAfter}
 

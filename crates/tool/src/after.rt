@@ -123,18 +123,18 @@ pub(crate) fn write_sent(state: ToolState, meaning: Meaning, out: &mut [u8]) -> 
             if 3 <= state.sendings {
                 0
             } else {
-                crate::sent::write_request(request, name, expected, out)
+                requests::sent::write_request(request, name, expected, out).len
             }
         }
         Meaning::Confirmed => 0,
         Meaning::WholeAnswer => 0,
         Meaning::SubMessageTaken => {
-            crate::sent::write_request(request, name, SubMessage(expected.0 + 1), out)
+            requests::sent::write_request(request, name, SubMessage(expected.0 + 1), out).len
         }
         Meaning::LastTaken => 0,
         Meaning::NoRoomForAnswer => 0,
         Meaning::NoRoomForSubMessage => {
-            crate::sent::write_acknowledgement(split::codes::stop(), out)
+            requests::sent::write_acknowledgement(split::codes::stop(), out).len
         }
         Meaning::RefusedBy(_) => 0,
     }

@@ -80,11 +80,11 @@ pub fn begin(state: ToolState, request: Request, name: AnswerName, out: &mut [u8
             len: 0,
         };
     }
-    let len = crate::sent::write_request(request, name, SubMessage(1), out);
+    let written = requests::sent::write_request(request, name, SubMessage(1), out);
     ToolStep {
         number: 0,
         state: begun_state(request, name),
-        len,
+        len: written.len,
     }
 }
 

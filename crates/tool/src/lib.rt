@@ -1,10 +1,9 @@
-// The download tool (document 01, The tool): what it sends at every begin and event, and its calls.
+// The download tool (document 01, The tool): what follows from every begin and event, and its calls.
 use arrival::ToolState;
 
 mod after;
 pub mod call;
 mod room;
-mod sent;
 
 // What a call hands back: refused, the state handed in and nothing sent; else the next state and the length of the
 // frame sent, 0 for none.

@@ -2,11 +2,12 @@
 use Rattle.tool.specs.After.{sentAfter, takes}
 use Rattle.tool.proofs.AfterLaws.{sent-at-length, sent-at-front, front-none, taken-next, third-length, third-front, again-length, again-front}
 use Rattle.tool.proofs.AfterLaws.{stop-length, stop-front}
+use Rattle.requests.proofs.SentLaws.{request-whole, request-front, acknowledgement-whole, acknowledgement-front}
 use borrow.Author.Needs.{needs}
 use Rattle.tool.proofs.after.write_sent.Statement.{statement}
 use Rattle.tool.proofs.after.write_sent.Tie as tie
 
-ruleset all = (needs, sent-at-length, sent-at-front, front-none, taken-next, third-length, third-front, again-length, again-front, stop-length, stop-front)
+ruleset all = (needs, sent-at-length, sent-at-front, front-none, taken-next, third-length, third-front, again-length, again-front, stop-length, stop-front, request-whole, request-front, acknowledgement-whole, acknowledgement-front)
 
 pub write-sent-spec : {M : Type 1} → statement M
 unfolding sentAfter takes

@@ -1,8 +1,8 @@
 -- 0 has none before it.
-use Rattle.tool.proofs.SentLaws.{no-before}
+use Rattle.requests.proofs.SentLaws.{no-before}
 use borrow.Author.Needs.{needs}
-use Rattle.tool.proofs.sent.before.Statement.{statement}
-use Rattle.tool.proofs.sent.before.Tie as tie
+use Rattle.requests.proofs.sent.before.Statement.{statement}
+use Rattle.requests.proofs.sent.before.Tie as tie
 
 ruleset all = (needs, no-before)
 

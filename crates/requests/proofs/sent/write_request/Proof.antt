@@ -1,11 +1,11 @@
 -- One frame for each request.
-use Rattle.tool.specs.Sent.{frameSent}
-use Rattle.tool.proofs.SentLaws.{start-length, start-out, sent-length, sent-front}
+use Rattle.requests.specs.Sent.{frameSent}
+use Rattle.requests.proofs.SentLaws.{result-request, out-request}
 use borrow.Author.Needs.{needs}
-use Rattle.tool.proofs.sent.write_request.Statement.{statement}
-use Rattle.tool.proofs.sent.write_request.Tie as tie
+use Rattle.requests.proofs.sent.write_request.Statement.{statement}
+use Rattle.requests.proofs.sent.write_request.Tie as tie
 
-ruleset all = (needs, start-length, start-out, sent-length, sent-front)
+ruleset all = (needs, result-request, out-request)
 
 pub write-request-spec : {M : Type 1} → statement M
 unfolding frameSent

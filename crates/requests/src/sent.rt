@@ -6,6 +6,7 @@ use frame::messages::EXIT;
 use frame::messages::SESSION;
 use frame::messages::STOP;
 use frame::messages::UPLOAD;
+use octets::Written;
 use octets::wire::ACKNOWLEDGE;
 use octets::wire::ANSWER;
 use octets::wire::TRANSFER_DATA;
@@ -14,28 +15,24 @@ use split::SubMessage;
 ghost use mathlib.Core.Path.{_≡_};
 ghost use Prim.Native.Nat.{_-_, _≤_};
 ghost use lib.ListN.{length};
-ghost use Rattle.octets.specs.Buffer.{front};
-ghost use Rattle.frame.specs.Frame.{frameMost, lab, frameOf};
+ghost use Rattle.frame.specs.Frame.{lab, frameOf, sendResult, sendOut};
 ghost use Rattle.frame.specs.declared.End.the-variants as ends;
 ghost use Rattle.split.specs.Codes.{sub};
-ghost use Rattle.tool.specs.Sent.{transferRequest, acknowledgement, transferData, frameSent};
+ghost use Rattle.requests.specs.Sent.{transferRequest, acknowledgement, transferData, frameSent};
 
-// Each writer answers the length of the frame, which stands at the front of `out`; 260 bytes take every frame.
-fn write_data(data: &[u8], out: &mut [u8]) -> usize
+// Each writer puts its frame at the front of `out`; 4 where `out` is shorter.
+fn write_data(data: &[u8], out: &mut [u8]) -> Written
     requires { ⌜ 1 ≤ length (now «data») ⌝ }
     requires { ⌜ length (now «data») ≤ 255 ⌝ }
-    requires { ⌜ frameMost ≤ length (now out) ⌝ }
-    ensures { λ n. ⌜ n ≡ length (frameOf lab ends.Unit (now («data» .entry))) ⌝ }
-    ensures { λ _. ⌜ now (out .exit) ≡ front (frameOf lab ends.Unit (now («data» .entry))) (now (out .entry)) ⌝ }
+    ensures { λ r. ⌜ r ≡ sendResult (frameOf lab ends.Unit (now («data» .entry))) (length (now (out .entry))) ⌝ }
+    ensures { λ _. ⌜ now (out .exit) ≡ sendOut (frameOf lab ends.Unit (now («data» .entry))) (now (out .entry)) ⌝ }
 {
-    let written = frame::write::write(data, End::Unit, out);
-    written.len
+    frame::write::write(data, End::Unit, out)
 }
 
-fn write_transfer_request(name: AnswerName, out: &mut [u8]) -> usize
-    requires { ⌜ frameMost ≤ length (now out) ⌝ }
-    ensures { λ n. ⌜ n ≡ length (frameOf lab ends.Unit (transferRequest name)) ⌝ }
-    ensures { λ _. ⌜ now (out .exit) ≡ front (frameOf lab ends.Unit (transferRequest name)) (now (out .entry)) ⌝ }
+fn write_transfer_request(name: AnswerName, out: &mut [u8]) -> Written
+    ensures { λ r. ⌜ r ≡ sendResult (frameOf lab ends.Unit (transferRequest name)) (length (now (out .entry))) ⌝ }
+    ensures { λ _. ⌜ now (out .exit) ≡ sendOut (frameOf lab ends.Unit (transferRequest name)) (now (out .entry)) ⌝ }
 {
     let trep = name.trep;
     let day = name.day;
@@ -54,10 +51,9 @@ fn write_transfer_request(name: AnswerName, out: &mut [u8]) -> usize
 }
 
 // 83 76 and a code (DDP_017).
-pub(crate) fn write_acknowledgement(code: AckCode, out: &mut [u8]) -> usize
-    requires { ⌜ frameMost ≤ length (now out) ⌝ }
-    ensures { λ n. ⌜ n ≡ length (frameOf lab ends.Unit (acknowledgement code)) ⌝ }
-    ensures { λ _. ⌜ now (out .exit) ≡ front (frameOf lab ends.Unit (acknowledgement code)) (now (out .entry)) ⌝ }
+pub fn write_acknowledgement(code: AckCode, out: &mut [u8]) -> Written
+    ensures { λ r. ⌜ r ≡ sendResult (frameOf lab ends.Unit (acknowledgement code)) (length (now (out .entry))) ⌝ }
+    ensures { λ _. ⌜ now (out .exit) ≡ sendOut (frameOf lab ends.Unit (acknowledgement code)) (now (out .entry)) ⌝ }
 {
     let c = code.0;
     let data = [ACKNOWLEDGE, ANSWER, (c / 256 % 256) as u8, (c % 256) as u8];
@@ -76,11 +72,10 @@ fn before(expected: SubMessage) -> SubMessage
 }
 
 // With 1 expected the transfer request is out, else the acknowledgement of the sub message before.
-fn write_transfer(name: AnswerName, expected: SubMessage, out: &mut [u8]) -> usize
-    requires { ⌜ frameMost ≤ length (now out) ⌝ }
-    ensures { λ n. ⌜ n ≡ length (frameOf lab ends.Unit (transferData name (expected .0))) ⌝ }
+fn write_transfer(name: AnswerName, expected: SubMessage, out: &mut [u8]) -> Written
+    ensures { λ r. ⌜ r ≡ sendResult (frameOf lab ends.Unit (transferData name (expected .0))) (length (now (out .entry))) ⌝ }
     ensures { λ _. ⌜ now (out .exit) ≡
-        front (frameOf lab ends.Unit (transferData name (expected .0))) (now (out .entry)) ⌝ }
+        sendOut (frameOf lab ends.Unit (transferData name (expected .0))) (now (out .entry)) ⌝ }
 {
     if expected.0 == 1 {
         return write_transfer_request(name, out);
@@ -89,21 +84,17 @@ fn write_transfer(name: AnswerName, expected: SubMessage, out: &mut [u8]) -> usi
 }
 
 // The frame of a request, in a transfer with this number expected.
-pub(crate) fn write_request(
+pub fn write_request(
     request: Request,
     name: AnswerName,
     expected: SubMessage,
     out: &mut [u8],
-) -> usize
-    requires { ⌜ frameMost ≤ length (now out) ⌝ }
-    ensures { λ n. ⌜ n ≡ length (frameSent lab request name (expected .0)) ⌝ }
-    ensures { λ _. ⌜ now (out .exit) ≡ front (frameSent lab request name (expected .0)) (now (out .entry)) ⌝ }
+) -> Written
+    ensures { λ r. ⌜ r ≡ sendResult (frameSent lab request name (expected .0)) (length (now (out .entry))) ⌝ }
+    ensures { λ _. ⌜ now (out .exit) ≡ sendOut (frameSent lab request name (expected .0)) (now (out .entry)) ⌝ }
 {
     match request {
-        Request::Start => {
-            let written = frame::messages::write_start(out);
-            written.len
-        }
+        Request::Start => frame::messages::write_start(out),
         Request::Session => write_data(&SESSION, out),
         Request::Upload => write_data(&UPLOAD, out),
         Request::Exit => write_data(&EXIT, out),

@@ -1,0 +1,2 @@
+-- Document 01, The tool: what it sends.
+pub mod Sent
