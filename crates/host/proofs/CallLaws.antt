@@ -29,11 +29,11 @@ use Rattle.tool.specs.declared.ToolStep.{ToolStep}
 use Rattle.arrival.specs.State as tool-state
 use Rattle.tool.specs.Call.{requestNumber, beginNumber, beginResult, beginOut, eventNumber, eventResult, arrivalResult, arrivalRoom, arrivalOut, waitResult}
 use Rattle.tool.specs.Call.{waitOut}
-use Rattle.host.specs.Packed.{packedUnit, isUnit, noUnit, unpackedUnit, requestFrom, packedTool, isTool, noTool, unpackedTool}
+use Rattle.states.specs.Packed.{packedUnit, isUnit, noUnit, unpackedUnit, requestFrom, packedTool, isTool, noTool, unpackedTool}
 use Rattle.host.specs.Calls.{unitFreshNumber, unitFreshState, unitHanded, unitKept, unitStep, unitStepReply, toolFreshNumber, toolFreshState, toolHanded}
 use Rattle.host.specs.Calls.{toolKept, toolBegin, toolBeginOut, toolArrival, toolArrivalRoom, toolArrivalOut, toolWait, toolWaitOut}
-use Rattle.host.proofs.UnitLaws.{length-unit, unit-none, unit-size}
-use Rattle.host.proofs.ToolLaws.{length-tool, tool-none, tool-size}
+use Rattle.states.proofs.UnitLaws.{length-unit, unit-none, unit-size}
+use Rattle.states.proofs.ToolLaws.{length-tool, tool-none, tool-size}
 
 -- The state bytes b after a call with number n that is not refused: the bytes p of its next state fill the whole buffer
 pub kept-accepted : (n : ℕ) (p b b′ : List ℕ) → (n ≡ 0 → length b ≡ length p) → n ≡ 0 → b′ ≡ copied p b → b′ ≡ changedBy n p b

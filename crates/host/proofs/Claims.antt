@@ -7,10 +7,8 @@ use Rattle.frame.specs.Frame.{lab}
 use Rattle.arrival.specs.declared.Meaning.{Meaning}
 use Rattle.arrival.specs.declared.Meaning.the-variants.{FailedWait}
 use Rattle.arrival.specs.Meaning.{arrivalMeaning, arrivalBytes}
-use Rattle.host.specs.Packed.{unpackedTool}
+use Rattle.states.specs.Packed.{unpackedTool}
 use Rattle.host.specs.Claims.{HostClaims}
-use Rattle.host.proofs.UnitLaws.{unit-back, unit-again}
-use Rattle.host.proofs.ToolLaws.{tool-back, tool-again}
 use Rattle.host.proofs.Theorems.{unit-refused-result, unit-refused-state, unit-refused-reply, unit-no-state, unit-fresh-refused, tool-fresh-refused}
 use Rattle.host.proofs.Theorems.{begin-refused-result, begin-refused-state, begin-refused-out, begin-no-state}
 use Rattle.host.proofs.Theorems.{event-refused-result, event-refused-state, event-refused-room, event-refused-out, event-no-state}
@@ -25,10 +23,6 @@ adds b f = arrivalBytes lab (unpackedTool b) f
 pub claims : HostClaims
 claims =
     record {
-      unitBack = unit-back;
-      toolBack = tool-back;
-      unitAgain = unit-again;
-      toolAgain = tool-again;
       unitFreshRefused = unit-fresh-refused;
       toolFreshRefused = tool-fresh-refused;
       stepRefused = λ b store f reply no.

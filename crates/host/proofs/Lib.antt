@@ -1,8 +1,4 @@
--- Laws of the packed states and of the calls on them.
-pub mod FieldLaws
-pub mod UnitLaws
-pub mod ToolLaws
+-- Laws of the calls on packed states.
 pub mod CallLaws
 pub mod Theorems
 pub mod Claims
-pub mod ReaderLaws

@@ -17,7 +17,7 @@ use Rattle.store.specs.Check.{storeNumber}
 use Rattle.unit.specs.Call.{unitReply, unitResult, unitOut}
 use Rattle.arrival.specs.declared.Meaning.{Meaning}
 use Rattle.tool.specs.Call.{requestNumber, beginNumber, beginSent, beginResult, beginOut, eventSent, eventRoom, eventResult, eventOut}
-use Rattle.host.specs.Packed.{isUnit, requestFrom, isTool, unpackedTool}
+use Rattle.states.specs.Packed.{isUnit, requestFrom, isTool, unpackedTool}
 use Rattle.host.specs.Calls.{unitFreshNumber, unitFreshState, unitHanded, unitKept, unitStep, unitStepReply}
 use Rattle.host.specs.Calls.{toolFreshNumber, toolFreshState, toolHanded, toolKept, toolBegin, toolBeginOut}
 use Rattle.host.specs.Claims.{refusal}

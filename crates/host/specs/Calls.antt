@@ -16,7 +16,7 @@ use Rattle.unit.specs.Call.{unitResult, unitOut}
 use Rattle.tool.specs.declared.ToolStep.{ToolStep}
 use Rattle.arrival.specs.State.{freshTool}
 use Rattle.tool.specs.Call.{beginResult, beginOut, arrivalResult, arrivalRoom, arrivalOut, waitResult, waitOut}
-use Rattle.host.specs.Packed.{unitSize, packedUnit, unpackedUnit, toolSize, requestFrom, packedTool, unpackedTool}
+use Rattle.states.specs.Packed.{unitSize, packedUnit, unpackedUnit, toolSize, requestFrom, packedTool, unpackedTool}
 
 -- The unit
 

@@ -1,7 +1,7 @@
--- What is claimed of the calls on packed states (document 01, House numbers): packing and unpacking undo each other,
--- a refused call changes nothing, and bytes that are no state are refused by 11. proofs/Claims.antt proves it.
-use Prim.Native.Nat.{ℕ, _<_, _≤_}
-use mathlib.Core.Bool.{true, false}
+-- What is claimed of the calls on packed states (document 01, House numbers): a refused call changes nothing, and bytes
+-- that are no state are refused by 11. proofs/Claims.antt proves it.
+use Prim.Native.Nat.{ℕ, _≤_}
+use mathlib.Core.Bool.{false}
 use mathlib.Core.List.{List}
 use mathlib.Core.Logic.{_≢_}
 use mathlib.Core.Path.{_≡_}
@@ -11,14 +11,10 @@ use Rattle.octets.specs.declared.Written.{Written}
 use Rattle.catalog.specs.declared.AnswerName.{AnswerName}
 use Rattle.store.specs.Layout.{narrow}
 use Rattle.store.specs.Check.{storeNumber}
-use Rattle.octets.specs.Buffer.{Bytes}
-use Rattle.services.specs.declared.UnitState.{UnitState}
 use Rattle.unit.specs.declared.UnitReply.{UnitReply}
-use Rattle.arrival.specs.declared.ToolState.{ToolState}
 use Rattle.tool.specs.declared.ToolStep.{ToolStep}
 use Rattle.tool.specs.Call.{requestNumber}
-use Rattle.host.specs.Packed.{nameSent, lastSent, packedUnit, isUnit, unpackedUnit}
-use Rattle.host.specs.Packed.{requestFrom, packedTool, isTool, unpackedTool}
+use Rattle.states.specs.Packed.{isUnit, requestFrom, isTool}
 use Rattle.host.specs.Calls.{unitFreshNumber, unitFreshState, unitHanded, unitKept, unitStep, unitStepReply}
 use Rattle.host.specs.Calls.{toolFreshNumber, toolFreshState, toolHanded, toolKept, toolBegin, toolBeginOut}
 use Rattle.host.specs.Calls.{toolArrival, toolArrivalRoom, toolArrivalOut, toolWait, toolWaitOut}
@@ -71,14 +67,6 @@ module _ (state room out : List ℕ) where
     pub outKept : toolWaitOut state (length room) out ≡ out
 
 pub record HostClaims : Type 0 where
-  -- a state comes back from its packed bytes; its day, number and count of bytes held fit their fields
-  pub unitBack : (u : UnitState) → nameSent (u .phase) .day < 0x100000000 → lastSent (u .phase) .0 < 0x10000
-      → unpackedUnit (packedUnit u) ≡ u
-  pub toolBack : (t : ToolState) → t .name .day < 0x100000000 → t .expected .0 < 0x10000 → t .held < 0x100000000
-      → unpackedTool (packedTool t) ≡ t
-  -- bytes that are a state come back from it
-  pub unitAgain : (state : List ℕ) → Bytes state → isUnit state ≡ true → packedUnit (unpackedUnit state) ≡ state
-  pub toolAgain : (state : List ℕ) → Bytes state → isTool state ≡ true → packedTool (unpackedTool state) ≡ state
   -- a refused call changes nothing
   pub unitFreshRefused : (kind : ℕ) (state : List ℕ) → unitFreshNumber kind (length state) ≢ done
       → unitFreshState kind state ≡ state

@@ -1,6 +1,5 @@
--- The calls for C hosts: ends as flags, packed states, and the unit's and the tool's calls on them.
+-- The calls for C hosts: ends as flags, the answers of a store, and the unit's and the tool's calls on them.
 pub mod Ends
-pub mod Packed
-pub mod Readers
+pub mod Held
 pub mod Calls
 pub mod Claims

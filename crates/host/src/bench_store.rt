@@ -8,7 +8,7 @@ ghost use Rattle.store.specs.Layout.{narrow};
 ghost use Rattle.store.specs.Check.{storeNumber};
 ghost use Rattle.store.specs.Read.{lookupPlace, streamPlace, countHeld, heldAnswer};
 ghost use Rattle.append.specs.Append.{appendResult, appendOut};
-ghost use Rattle.host.specs.Readers.{heldOf};
+ghost use Rattle.host.specs.Held.{heldOf};
 
 // One answer of a store: TREP, day and place, or a refusal and zeros.
 #[repr(C)]

@@ -4,8 +4,6 @@ pub mod arrays;
 pub mod bench_store;
 pub mod frames;
 mod hand;
-mod pack_tool;
-mod pack_unit;
 pub mod readers;
 pub mod splitting;
 pub mod tool_calls;

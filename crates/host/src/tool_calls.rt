@@ -15,10 +15,10 @@ pub extern "C" fn tacho_tool_fresh(state: &mut [u8]) -> u8
     ensures { λ r. ⌜ r ≡ toolFreshNumber (length (now (state .entry))) ⌝ }
     ensures { λ _. ⌜ now (state .exit) ≡ toolFreshState (now (state .entry)) ⌝ }
 {
-    if state.len() < crate::pack_tool::SIZE {
+    if state.len() < states::pack_tool::SIZE {
         return BUFFER_SHORT;
     }
-    octets::buffer::copy_in(state, &crate::pack_tool::pack(arrival::state::fresh()));
+    octets::buffer::copy_in(state, &states::pack_tool::pack(arrival::state::fresh()));
     0
 }
 
@@ -47,11 +47,11 @@ pub extern "C" fn tacho_tool_begin(
             len: 0,
         };
     }
-    let was = crate::pack_tool::unpack(state);
-    let asked = crate::pack_tool::request_from(request);
+    let was = states::pack_tool::unpack(state);
+    let asked = states::pack_tool::request_from(request);
     let step = tool::call::begin(was, asked, AnswerName { trep, day }, out);
     let next = step.state;
-    crate::hand::hand(step.number, step.len, &crate::pack_tool::pack(next), state)
+    crate::hand::hand(step.number, step.len, &states::pack_tool::pack(next), state)
 }
 
 // A frame arrived, good or not. Refused by 11 and 4, in this order.
@@ -75,10 +75,10 @@ pub extern "C" fn tacho_tool_arrived(
     ensures { λ _. ⌜ now (out .exit) ≡
         toolArrivalOut (now (state .entry)) (now (frame .entry)) (length (now (room .entry))) (now (out .entry)) ⌝ }
 {
-    let was = crate::pack_tool::unpack(state);
+    let was = states::pack_tool::unpack(state);
     let step = tool::call::arrived(was, frame, room, out);
     let next = step.state;
-    crate::hand::hand(step.number, step.len, &crate::pack_tool::pack(next), state)
+    crate::hand::hand(step.number, step.len, &states::pack_tool::pack(next), state)
 }
 
 // The wait for a frame ended; the room is only looked at. Refused by 11 and 4, in this order.
@@ -92,8 +92,8 @@ pub extern "C" fn tacho_tool_wait_ended(state: &mut [u8], room: &[u8], out: &mut
     ensures { λ _. ⌜ now (out .exit) ≡
         toolWaitOut (now (state .entry)) (length (now (room .entry))) (now (out .entry)) ⌝ }
 {
-    let was = crate::pack_tool::unpack(state);
+    let was = states::pack_tool::unpack(state);
     let step = tool::call::wait_ended(was, room, out);
     let next = step.state;
-    crate::hand::hand(step.number, step.len, &crate::pack_tool::pack(next), state)
+    crate::hand::hand(step.number, step.len, &states::pack_tool::pack(next), state)
 }

@@ -16,10 +16,10 @@ pub extern "C" fn tacho_unit_fresh(kind: u8, state: &mut [u8]) -> u8
     if kind >= catalog::KINDS {
         return OUT_OF_TURN;
     }
-    if state.len() < crate::pack_unit::SIZE {
+    if state.len() < states::pack_unit::SIZE {
         return BUFFER_SHORT;
     }
-    octets::buffer::copy_in(state, &crate::pack_unit::pack(services::state::fresh(kind)));
+    octets::buffer::copy_in(state, &states::pack_unit::pack(services::state::fresh(kind)));
     0
 }
 
@@ -41,8 +41,8 @@ pub extern "C" fn tacho_unit_step(
     ensures { λ _. ⌜ now (reply .exit)
         ≡ unitStepReply (now (state .entry)) (now (store .entry)) (now (frame .entry)) (now (reply .entry)) ⌝ }
 {
-    let was = crate::pack_unit::unpack(state);
+    let was = states::pack_unit::unpack(state);
     let step = unit::call::step(was, store, frame, reply);
     let next = step.state;
-    crate::hand::hand(step.number, step.len, &crate::pack_unit::pack(next), state)
+    crate::hand::hand(step.number, step.len, &states::pack_unit::pack(next), state)
 }

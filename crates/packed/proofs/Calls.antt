@@ -25,12 +25,12 @@ use Rattle.arrival.specs.Meaning.{arrivalMeaning, arrivalBytes}
 use Rattle.tool.specs.After.{stateAfter as toolAfter}
 use Rattle.tool.specs.Call.{eventNumber, eventState, eventSent, eventRoom, eventResult, eventOut, arrivalRoom}
 use Rattle.tool.proofs.BoundLaws as tools
-use Rattle.host.specs.Packed.{phaseFrom, nameSent, lastSent, packedUnit, unitName, unitLast, isUnit, unpackedUnit, packedTool, isTool}
-use Rattle.host.specs.Packed.{unpackedTool}
+use Rattle.states.specs.Packed.{phaseFrom, namePacked, lastPacked, packedUnit, unitName, unitLast, isUnit, unpackedUnit, packedTool, isTool}
+use Rattle.states.specs.Packed.{unpackedTool}
 use Rattle.host.specs.Calls as calls
 use Rattle.host.specs.Calls.{unitHanded, unitKept, toolHanded, toolKept}
-use Rattle.host.proofs.UnitLaws.{unit-back}
-use Rattle.host.proofs.ToolLaws.{tool-back, outcome-kept}
+use Rattle.states.proofs.UnitLaws.{unit-back}
+use Rattle.states.proofs.ToolLaws.{tool-back, outcome-kept}
 use Rattle.line.specs.Line.{Result, silent}
 use Rattle.download.specs.CableEnds as cable
 use Rattle.download.specs.CableEnds.{ToolRoom, strings}
@@ -63,7 +63,7 @@ module _ (b : List ℕ) (bytes : Bytes b) where
 
 -- states that fit come back from their packed bytes
 
-name-fits : (phase : Phase) → units.Fits phase → (nameSent phase .day < 4294967296) × (lastSent phase .0 < 65536)
+name-fits : (phase : Phase) → units.Fits phase → (namePacked phase .day < 4294967296) × (lastPacked phase .0 < 65536)
 name-fits Closed f = (omega arith, omega arith)
 name-fits Started f = (omega arith, omega arith)
 name-fits Session f = (omega arith, omega arith)

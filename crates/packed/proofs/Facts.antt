@@ -16,9 +16,9 @@ use Rattle.unit.proofs.BoundLaws as unitBounds
 use Rattle.arrival.specs.declared.Request.the-variants as requests
 use Rattle.tool.specs.Call.{beginState, beginResult}
 use Rattle.tool.proofs.BoundLaws as toolBounds
-use Rattle.host.specs.Packed.{packedUnit, isUnit, noUnit, unpackedUnit, requestFrom}
+use Rattle.states.specs.Packed.{packedUnit, isUnit, noUnit, unpackedUnit, requestFrom}
 use Rattle.host.specs.Calls.{toolHanded, toolKept, toolBegin, toolBeginOut}
-use Rattle.host.proofs.UnitLaws.{unit-none, unit-again}
+use Rattle.states.proofs.UnitLaws.{unit-none, unit-again}
 use Rattle.line.specs.Line.{silent}
 use Rattle.line.specs.Book as books
 use Rattle.line.specs.Facts.{Facts}

@@ -24,7 +24,7 @@ use Rattle.arrival.specs.declared.Request.the-variants as requests
 use Rattle.arrival.specs.State.{noName}
 use Rattle.requests.specs.Sent.{frameSent}
 use Rattle.tool.specs.Call.{requestNumber, beginNumber, beginResult}
-use Rattle.host.specs.Packed.{packedUnit, unpackedUnit, requestFrom}
+use Rattle.states.specs.Packed.{packedUnit, unpackedUnit, requestFrom}
 use Rattle.host.specs.Calls.{unitFreshState, toolFreshState, toolBegin}
 use Rattle.line.specs.Line.{Result}
 use Rattle.download.proofs.Runs.{calls}

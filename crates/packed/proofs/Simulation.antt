@@ -20,10 +20,10 @@ use Rattle.arrival.specs.State.{freshTool}
 use Rattle.tool.specs.After.{stateAfter as toolAfter}
 use Rattle.tool.specs.Call.{begun, beginNumber, beginState, beginResult, eventNumber, eventState, eventResult}
 use Rattle.tool.proofs.BoundLaws as tools
-use Rattle.host.specs.Packed.{packedUnit, isUnit, unpackedUnit, requestFrom, packedTool, isTool, unpackedTool}
+use Rattle.states.specs.Packed.{packedUnit, isUnit, unpackedUnit, requestFrom, packedTool, isTool, unpackedTool}
 use Rattle.host.specs.Calls.{unitFreshNumber, unitFreshState, unitKept, unitStep, toolFreshNumber, toolFreshState, toolKept, toolBegin, toolArrival, toolWait}
-use Rattle.host.proofs.UnitLaws.{length-unit, unit-again}
-use Rattle.host.proofs.ToolLaws.{length-tool, tool-again}
+use Rattle.states.proofs.UnitLaws.{length-unit, unit-again}
+use Rattle.states.proofs.ToolLaws.{length-tool, tool-again}
 use Rattle.packed.specs.Simulation.{UnitIs, ToolIs, Simulation}
 use Rattle.packed.proofs.Calls.{unit-fits, tool-fits, unit-returns, tool-returns, kept-packs}
 

@@ -3,7 +3,7 @@ use mathlib.Core.List.{List}
 use mathlib.Core.Path.{_≡_, refl, ap, _∙_}
 use Rattle.frame.specs.Frame.{lab}
 use Rattle.tool.proofs.BoundLaws as toolBounds
-use Rattle.host.specs.Packed.{packedUnit, unpackedUnit, packedTool, unpackedTool}
+use Rattle.states.specs.Packed.{packedUnit, unpackedUnit, packedTool, unpackedTool}
 use Rattle.line.specs.Line.{Event}
 use Rattle.line.specs.Book as books
 use Rattle.line.specs.Book.{Run}

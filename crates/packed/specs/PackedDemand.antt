@@ -9,7 +9,7 @@ use lib.ListN.{length}
 use lib.Dec.{leb}
 use Rattle.octets.specs.Buffer.{Bytes}
 use Rattle.frame.specs.Frame.{frameMost, lab}
-use Rattle.host.specs.Packed.{packedUnit, unpackedUnit, requestByte, packedTool, unpackedTool}
+use Rattle.states.specs.Packed.{packedUnit, unpackedUnit, requestByte, packedTool, unpackedTool}
 use Rattle.arrival.specs.declared.Request.the-variants as requests
 use Rattle.line.specs.Line.{System, Event}
 use Rattle.line.specs.Book as books

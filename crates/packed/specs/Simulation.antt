@@ -16,7 +16,7 @@ use Rattle.unit.specs.Call.{unitState}
 use Rattle.arrival.specs.declared.ToolState.{ToolState}
 use Rattle.arrival.specs.State.{freshTool}
 use Rattle.tool.specs.Call.{beginResult, arrivalResult, waitResult}
-use Rattle.host.specs.Packed.{packedUnit, isUnit, unpackedUnit, requestFrom, packedTool, isTool, unpackedTool}
+use Rattle.states.specs.Packed.{packedUnit, isUnit, unpackedUnit, requestFrom, packedTool, isTool, unpackedTool}
 use Rattle.host.specs.Calls.{unitFreshState, unitKept, unitStep}
 use Rattle.host.specs.Calls.{toolFreshState, toolKept, toolBegin, toolArrival, toolWait}
 

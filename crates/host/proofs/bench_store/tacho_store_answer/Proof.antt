@@ -1,6 +1,6 @@
 -- The answer that the store gives, field by field.
 use mathlib.Core.Path.{ap}
-use Rattle.host.specs.Readers.{heldOf}
+use Rattle.host.specs.Held.{heldOf}
 use borrow.Author.Needs.{needs}
 use Rattle.host.proofs.bench_store.tacho_store_answer.Statement.{statement}
 use Rattle.host.proofs.bench_store.tacho_store_answer.Tie as tie
