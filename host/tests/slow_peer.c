@@ -75,7 +75,7 @@ static int unit(const char *store_path)
     while ((n = get(frame)) > 0) {
         tacho_written w = ref_unit_step(state, sizeof state, store, store_len, frame, n, reply, sizeof reply);
         if (w.number) break;
-        if (!pended && w.len && reply[4] == 0x76) {
+        if (!pended && w.len && reply[REF_FRAME_DATA] == 0x76) {
             pend();
             pended = true;
         }
@@ -128,7 +128,7 @@ static bool replied(const uint8_t *data, size_t len, uint8_t sid)
     static uint8_t frame[300];
     size_t n = ref_frame_write(data, len, false, frame, sizeof frame).len;
     put(frame, n);
-    return get(frame) > 4 && frame[4] == sid;
+    return get(frame) > REF_FRAME_DATA && frame[REF_FRAME_DATA] == sid;
 }
 
 /* The rate that the unit's end of the line has, once it had time to set it. */
