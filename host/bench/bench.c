@@ -206,9 +206,10 @@ static double time_of(void (*run)(const side *), const side *of, unsigned reps)
 /* One case so many times, for counting instructions: the status. */
 static int run_one(const char *name, const char *which, unsigned long reps)
 {
+    const side *of = strcmp(which, "proved") ? &reference : &proved;
     for (size_t k = 0; k < COUNT; k++)
         if (strcmp(name, cases[k].name) == 0) {
-            for (unsigned long i = 0; i < reps; i++) cases[k].run(strcmp(which, "proved") ? &reference : &proved);
+            for (unsigned long i = 0; i < reps; i++) cases[k].run(of);
             return 0;
         }
     fprintf(stderr, "bench: there is no case %s; --names lists them\n", name);
