@@ -76,6 +76,13 @@ unsigned char *file_read(const char *path, size_t most, size_t *len)
     return bytes;
 }
 
+bool faults_check(unsigned long lose, unsigned long repeat, unsigned long spoil)
+{
+    if (lose + repeat + spoil <= 1000) return true;
+    fputs("--lose, --repeat and --spoil are more than a thousand together\n", stderr);
+    return false;
+}
+
 int help_said(const char *help)
 {
     return fputs(help, stdout) < 0 || fflush(stdout) ? 2 : 0;

@@ -7,6 +7,7 @@
  *   slow_peer tool LINE TREP..     noise first, then start, session, upload, each transfer, exit and stop; prints the bytes of each answer
  */
 #define _GNU_SOURCE
+#include "clock.h"
 #include "options.h"
 #include "reference.h"
 
@@ -16,27 +17,21 @@
 #include <stdlib.h>
 #include <string.h>
 #include <termios.h>
-#include <time.h>
 #include <unistd.h>
 
 static int fd, other;
 static unsigned turn;
 
-static void pause_ms(long n)
-{
-    nanosleep(&(struct timespec){n / 1000, n % 1000 * 1000000}, NULL);
-}
-
 static void put(const uint8_t *bytes, size_t len)
 {
-    pause_ms(turn == 3 ? 900 : 20 + turn * 7 % 41);
+    clock_pause(turn == 3 ? 900 : 20 + turn * 7 % 41);
     turn++;
     for (size_t i = 0; i < len;) {
         size_t n = turn % 3 ? 1 + (i * 13 + turn * 29) % 60 : 1;
         if (n > len - i) n = len - i;
         if (write(fd, bytes + i, n) != (ssize_t)n) exit(1);
         i += n;
-        pause_ms(n == 1 && turn % 3 == 0 ? 1 : (long)(i * 5 % 16));
+        clock_pause(n == 1 && turn % 3 == 0 ? 1 : i * 5 % 16);
     }
 }
 
@@ -109,7 +104,7 @@ static int tool(int count, char **treps)
     uint8_t state[TACHO_TOOL_STATE];
     ref_tool_fresh(state, sizeof state);
     put((const uint8_t[]){0x00, 0xFF, 0x81, 0x13}, 4);
-    pause_ms(100);
+    clock_pause(100);
     for (uint8_t r = TACHO_REQUEST_START; r <= TACHO_REQUEST_UPLOAD; r++) ask(r, 0, state, room);
     for (int i = 0; i < count; i++) {
         uint8_t trep = (uint8_t)strtoul(treps[i], NULL, 16);
@@ -138,7 +133,7 @@ static bool is_set(const char *baud)
         {"9600", B9600}, {"19200", B19200}, {"38400", B38400}, {"57600", B57600}, {"115200", B115200},
     };
     struct termios t;
-    pause_ms(200);
+    clock_pause(200);
     if (tcgetattr(other, &t)) return false;
     for (size_t i = 0; i < sizeof known / sizeof *known; i++)
         if (strcmp(known[i].baud, baud) == 0 && cfgetospeed(&t) == known[i].speed) return true;
@@ -151,7 +146,7 @@ static int rate(int count, char **rates)
     static uint8_t frame[300];
     const uint8_t start[] = {0x81, 0xEE, 0xF0, 0x81, 0xE0};
     size_t heard = 0;
-    pause_ms(300); /* what comes before the unit has opened its port is dropped, so the start is sent up to three times */
+    clock_pause(300); /* what comes before the unit has opened its port is dropped, so the start is sent up to three times */
     for (int i = 0; i < 3 && heard == 0; i++) {
         put(start, sizeof start);
         heard = get(frame);
