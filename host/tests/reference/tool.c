@@ -169,14 +169,7 @@ tacho_written ref_tool_wait_ended(uint8_t *state, size_t state_len, const uint8_
     return (tacho_written){0, len};
 }
 
-/* A reader of one field. */
-#define READER(name, field)                                       \
-    size_t name(const uint8_t *state, size_t len)                 \
-    {                                                             \
-        tool t;                                                   \
-        return unpack(state, len, &t) ? t.field : TACHO_NO_STATE; \
-    }
-READER(ref_tool_outcome, outcome)
-READER(ref_tool_code, code)
-READER(ref_tool_expected, expected)
-READER(ref_tool_held, held)
+REF_READER(ref_tool_outcome, tool, outcome)
+REF_READER(ref_tool_code, tool, code)
+REF_READER(ref_tool_expected, tool, expected)
+REF_READER(ref_tool_held, tool, held)

@@ -185,13 +185,6 @@ tacho_written ref_unit_step(uint8_t *state, size_t state_len, const uint8_t *sto
     return (tacho_written){0, len};
 }
 
-/* A reader of one field. */
-#define READER(name, field)                                       \
-    size_t name(const uint8_t *state, size_t len)                 \
-    {                                                             \
-        unit u;                                                   \
-        return unpack(state, len, &u) ? u.field : TACHO_NO_STATE; \
-    }
-READER(ref_unit_kind, kind)
-READER(ref_unit_rate, rate)
-READER(ref_unit_phase, phase)
+REF_READER(ref_unit_kind, unit, kind)
+REF_READER(ref_unit_rate, unit, rate)
+REF_READER(ref_unit_phase, unit, phase)
