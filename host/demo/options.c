@@ -88,11 +88,16 @@ int help_said(const char *help)
     return fputs(help, stdout) < 0 || fflush(stdout) ? 2 : 0;
 }
 
-/* Where the bytes for the path go first: beside it, or to the path itself where it is a device, a pipe or a link. NULL without memory. */
+/* Where the bytes for the path go first: beside it, or to the path itself where it is a device, a pipe or a link. NULL without memory, and
+ * for an empty path, which has something beside it though it names no file. */
 static char *place_for(const char *path, bool *beside)
 {
     struct stat s;
     char *place = NULL;
+    if (*path == 0) {
+        errno = ENOENT;
+        return NULL;
+    }
     *beside = lstat(path, &s) != 0 || S_ISREG(s.st_mode);
     return asprintf(&place, "%s%s", path, *beside ? ".part" : "") < 0 ? NULL : place;
 }
