@@ -66,7 +66,7 @@ install: $(LIBRARY)
 	@sed 's|@PREFIX@|$(abspath $(PREFIX))|; s|@VERSION@|$(VERSION)|' host/lib/tacho.pc.in >$(DESTDIR)$(PREFIX)/lib/pkgconfig/tacho.pc
 	@echo "installed to $(DESTDIR)$(PREFIX): include/tacho.h, lib/libtacho.a, lib/pkgconfig/tacho.pc"
 
-# objects as they are, and with the sanitizers; they do not need the library, so make -j compiles them while it is proved
+# objects as they are, and with the sanitizers; none needs the library, so make -j compiles them while it is proved
 $(BUILT)/plain/%.o: host/%.c $(HEADERS)
 	@mkdir -p $(@D) && gcc $(CFLAGS) $(INCLUDES) -c $< -o $@
 

@@ -27,8 +27,14 @@ typedef struct {
     __typeof__(tacho_tool_arrived) *tool_arrived;
 } side;
 
-#define SIDE(P) {P##_checksum, P##_frame_check, P##_frame_write, P##_store_check, P##_store_append, P##_array_at, P##_record_at, \
-                 P##_unit_step, P##_tool_begin, P##_tool_arrived}
+#define SIDE(P)                                                         \
+    {                                                                   \
+        .checksum = P##_checksum, .frame_check = P##_frame_check,       \
+        .frame_write = P##_frame_write, .store_check = P##_store_check, \
+        .store_append = P##_store_append, .array_at = P##_array_at,     \
+        .record_at = P##_record_at, .unit_step = P##_unit_step,         \
+        .tool_begin = P##_tool_begin, .tool_arrived = P##_tool_arrived, \
+    }
 static const side proved = SIDE(tacho), reference = SIDE(ref);
 
 /* A bench store in a buffer with room for more. */
@@ -163,7 +169,7 @@ static void make_stores(void)
     answer[1] = 0x22; /* what `append` puts last */
 }
 
-/* A unit that has granted an upload, and a tool that has begun a transfer: by the frames of start, session and upload. */
+/* A unit that has granted an upload, by the frames of start, session and upload; a tool that has begun a transfer. */
 static void make_states(void)
 {
     uint8_t tool[TACHO_TOOL_STATE], reply[TACHO_FRAME_MOST];
@@ -220,13 +226,14 @@ static void run_all(void)
 {
     printf("%-28s %12s %12s %8s\n", "case", "proved ns", "plain C ns", "ratio");
     for (size_t k = 0; k < COUNT; k++) {
-        double least_proved = 1e18, least_reference = 1e18;
+        double least[2] = {1e18, 1e18};
         for (int i = 0; i < ROUNDS; i++) {
-            double a = time_of(cases[k].run, &proved, cases[k].reps), b = time_of(cases[k].run, &reference, cases[k].reps);
-            if (a < least_proved) least_proved = a;
-            if (b < least_reference) least_reference = b;
+            double a = time_of(cases[k].run, &proved, cases[k].reps);
+            double b = time_of(cases[k].run, &reference, cases[k].reps);
+            if (a < least[0]) least[0] = a;
+            if (b < least[1]) least[1] = b;
         }
-        printf("%-28s %12.1f %12.1f %8.2f\n", cases[k].name, least_proved, least_reference, least_proved / least_reference);
+        printf("%-28s %12.1f %12.1f %8.2f\n", cases[k].name, least[0], least[1], least[0] / least[1]);
     }
 }
 

@@ -13,8 +13,8 @@ static const char help[] =
     "  --store FILE     the bench store (docs/PROTOCOL.md); bytes behind it are not looked at\n"
     "  --line PATH      the serial port to listen on: raw, 8 data bits, one stop bit, 9,600 baud at first; the unit changes the rate\n"
     "                   where the tool confirms a change\n"
-    "  --pty FILE       make a pseudo-terminal instead, and write the path of its other end to FILE; --rate and --parity have no effect\n"
-    "                   on it\n"
+    "  --pty FILE       make a pseudo-terminal instead, and write the path of its other end to FILE;\n"
+    "                   --rate and --parity have no effect on it\n"
     "  --rate N         keep the port at this baud rate\n"
     "  --parity WHICH   even, odd or none (default even: Appendix 6 asks for it, which is not among this\n"
     "                   build's sources)\n"
@@ -127,7 +127,8 @@ static int serve(line *l, uint8_t *state, const uint8_t *store, size_t store_len
 
 int main(int argc, char **argv)
 {
-    settings s = {.rate = RATE_FOLLOWED, .parity = "even", .kind = 2, .seed = 1, .idle = 10, .silence = 25, .delay = 20};
+    settings s = {.parity = "even", .rate = RATE_FOLLOWED, .kind = 2, .seed = 1, .idle = 10,
+                  .silence = 25, .delay = 20};
     size_t store_len;
     uint8_t state[TACHO_UNIT_STATE];
     if (!read_settings(argc, argv, &s)) return 2;

@@ -25,8 +25,8 @@ typedef struct {
     const char *parity; /* "even", "odd" or "none" */
 } line_port;
 
-/* The longest string. A broken frame and the good one behind it stand in it together, each of the longest, so that it is seen where the
- * good one begins; noise that goes on for longer is handed out in parts. */
+/* The longest string. A broken frame and the good one behind it stand in it together, each of the longest, so that it
+ * is seen where the good one begins; noise that goes on for longer is handed out in parts. */
 enum { LINE_STRING_MOST = 2 * TACHO_FRAME_MOST };
 
 typedef struct {

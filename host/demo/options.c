@@ -88,8 +88,8 @@ int help_said(const char *help)
     return fputs(help, stdout) < 0 || fflush(stdout) ? 2 : 0;
 }
 
-/* Where the bytes for the path go first: beside it, or to the path itself where it is a device, a pipe or a link. NULL without memory, and
- * for an empty path, which has something beside it though it names no file. */
+/* Where the bytes for the path go first: beside it, or to the path itself where it is a device, a pipe or a link. NULL
+ * without memory, and for an empty path: it names no file, though one could be written beside it. */
 static char *place_for(const char *path, bool *beside)
 {
     struct stat s;

@@ -84,8 +84,9 @@ enum {
     TACHO_STORE_MOST = 60516   /* the longest bench store: 64 answers and 60,000 bytes of stream */
 };
 
-/* Places of the fields in a packed unit and a packed tool, of a longer field its first byte. To read a state use the readers below; the
- * places are for a host that builds states or keeps them in a form of its own. They are part of the interface, as the sizes are. */
+/* Places of the fields in a packed unit and a packed tool; of a longer field, its first byte. A program that only reads
+ * a state uses the readers below: the places are for a host that builds states, or keeps them in a form of its own.
+ * They are binding, as the sizes are. */
 enum {
     TACHO_UNIT_AT_KIND = 0,
     TACHO_UNIT_AT_RATE = 1,

@@ -13,7 +13,7 @@
 #include <string.h>
 #include <time.h>
 
-/* The longest buffers that are lent: stores and rooms with bytes to spare, and states that are too long by some bytes. */
+/* The longest buffers that are lent: stores and rooms with bytes to spare, and states that are some bytes too long. */
 enum { LONGEST = TACHO_STORE_MOST + 100, STATE_ROOM = 20 };
 
 /* The calls of tacho.h with the numbers of document 01 that each can give, 0 first, then in the order of its checks. */
@@ -445,7 +445,7 @@ static size_t some_body(uint8_t *b)
     return n;
 }
 
-/* The number in two bytes of a packed state, which may be too short: what the unit sent last, or what the tool expects. */
+/* A number in two bytes of a packed state, 0 where that is too short: what the unit sent last or the tool expects. */
 static uint16_t number_at(const uint8_t *state, size_t len, size_t at)
 {
     return len > at + 1 ? (uint16_t)(state[at] << 8 | state[at + 1]) : 0;

@@ -73,7 +73,8 @@ static void one(const char *what, script s)
 }
 
 /* One string, then another right behind it, so many bytes at a time: two strings. */
-static void two(const char *what, const uint8_t *first, size_t first_len, const uint8_t *second, size_t second_len, size_t clump)
+static void two(const char *what, const uint8_t *first, size_t first_len, const uint8_t *second, size_t second_len,
+                size_t clump)
 {
     memmove(bytes, first, first_len);
     memcpy(bytes + first_len, second, second_len);

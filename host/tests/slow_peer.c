@@ -146,7 +146,8 @@ static int rate(int count, char **rates)
     static uint8_t frame[300];
     const uint8_t start[] = {0x81, 0xEE, 0xF0, 0x81, 0xE0};
     size_t heard = 0;
-    clock_pause(300); /* what comes before the unit has opened its port is dropped, so the start is sent up to three times */
+    /* what comes before the unit has opened its port is dropped, so the start is sent up to three times */
+    clock_pause(300);
     for (int i = 0; i < 3 && heard == 0; i++) {
         put(start, sizeof start);
         heard = get(frame);

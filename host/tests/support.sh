@@ -1,10 +1,11 @@
-# What the tests in shell share; sourced. `work` is a folder of the test's own. Whatever ends the test, what it started is ended too.
+# What the tests in shell share; sourced. `work` is a folder of the test's own. Whatever ends the test, what it started
+# is ended too.
 work=$(mktemp -d)
 trap '{ kill $(jobs -p) || true; wait; } 2>/dev/null; rm -rf "$work"' EXIT
 trap 'exit 130' INT
 trap 'exit 143' TERM
 
-# ends STATUS TEXT COMMAND..: the command ends with that status within ten seconds, and says the text; counted in `passed`
+# ends STATUS TEXT COMMAND..: the command ends with that status within ten seconds, and says the text; `passed` counts
 passed=0
 ends() {
     local status=0 wanted=$1 text=$2

@@ -1,6 +1,7 @@
 /*
  * A plain C implementation of document 01, written from the document alone, for comparison in tests and benchmarks.
- * The calls are those of tacho.h under another prefix, and have their types; places in a packed state are those that tacho.h names.
+ * The calls are those of tacho.h under another prefix, and have their types; places in a packed state are those that
+ * tacho.h names.
  */
 #ifndef REFERENCE_H
 #define REFERENCE_H

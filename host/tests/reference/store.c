@@ -108,7 +108,8 @@ tacho_part ref_store_find(const uint8_t *s, uint8_t trep, uint32_t day)
 {
     size_t n = count_of(s);
     for (size_t i = 0; i < n; i++)
-        if (answer(s, i)[1] == trep && day_of(s, i) == day) return (tacho_part){0, (size_t)(answer(s, i) - s), len_of(s, i)};
+        if (answer(s, i)[1] == trep && day_of(s, i) == day)
+            return (tacho_part){0, (size_t)(answer(s, i) - s), len_of(s, i)};
     return (tacho_part){6, 0, 0};
 }
 

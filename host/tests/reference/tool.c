@@ -76,7 +76,8 @@ tacho_written ref_tool_begin(uint8_t *state, size_t state_len, uint8_t request, 
 {
     tool t;
     bool transfer = request == TACHO_REQUEST_TRANSFER;
-    if (request > TACHO_REQUEST_TRANSFER || (transfer ? !ref_named(trep, day) : trep != 0 || day != 0)) return (tacho_written){12, 0};
+    if (request > TACHO_REQUEST_TRANSFER || (transfer ? !ref_named(trep, day) : trep != 0 || day != 0))
+        return (tacho_written){12, 0};
     if (!unpack(state, state_len, &t) || t.outcome == TACHO_OUTCOME_WAITING) return (tacho_written){11, 0};
     if (out_len < 260) return (tacho_written){4, 0};
     t = (tool){request, TACHO_OUTCOME_WAITING, 0, trep, day, 1, 1, 0};
