@@ -5,7 +5,7 @@ BUILT := target/host
 ARCHIVE := target/staticlib/libhost.a
 LIBRARY := target/lib/libtacho.a
 SOURCES := crates.txt $(shell find crates -name '*.rt' -o -name '*.antt')
-REFERENCE := $(wildcard host/tests/reference/*.c)
+REFERENCE := $(patsubst host/%.c,%,$(wildcard host/tests/reference/*.c))
 HEADERS := $(wildcard host/*/*.h host/tests/reference/*.h)
 INCLUDES := -Ihost/include -Ihost/tests/reference -Ihost/demo
 VERSION := $(shell sed -n 's/^#define TACHO_VERSION "\(.*\)"$$/\1/p' host/include/tacho.h)
@@ -66,26 +66,30 @@ install: $(LIBRARY)
 	@sed 's|@PREFIX@|$(abspath $(PREFIX))|; s|@VERSION@|$(VERSION)|' host/lib/tacho.pc.in >$(DESTDIR)$(PREFIX)/lib/pkgconfig/tacho.pc
 	@echo "installed to $(DESTDIR)$(PREFIX): include/tacho.h, lib/libtacho.a, lib/pkgconfig/tacho.pc"
 
-$(BUILT)/bench_unit $(BUILT)/download: $(BUILT)/%: host/demo/%.c host/demo/line.c host/demo/options.c $(LIBRARY) $(HEADERS)
-	@mkdir -p $(@D) && gcc $(CFLAGS) $(INCLUDES) $(filter-out %.h,$^) -o $@
+# objects as they are, and with the sanitizers; none needs the library, so make -j compiles them while it is proved
+$(BUILT)/plain/%.o: host/%.c $(HEADERS)
+	@mkdir -p $(@D) && gcc $(CFLAGS) $(INCLUDES) -c $< -o $@
 
-$(BUILT)/sample_store: host/demo/sample_store.c host/demo/options.c $(LIBRARY) $(HEADERS)
-	@mkdir -p $(@D) && gcc $(CFLAGS) $(INCLUDES) $(filter-out %.h,$^) -o $@
+$(BUILT)/checked/%.o: host/%.c $(HEADERS)
+	@mkdir -p $(@D) && gcc $(CFLAGS) $(CHECKED) $(INCLUDES) -c $< -o $@
 
-$(BUILT)/differential: host/tests/differential.c host/tests/support.c $(REFERENCE) $(LIBRARY) $(HEADERS)
-	@mkdir -p $(@D) && gcc $(CFLAGS) $(CHECKED) $(INCLUDES) $(filter-out %.h,$^) -o $@
+plain = $(1:%=$(BUILT)/plain/%.o)
+checked = $(1:%=$(BUILT)/checked/%.o)
 
-$(BUILT)/download_test: host/tests/download.c host/tests/support.c $(REFERENCE) $(LIBRARY) $(HEADERS)
-	@mkdir -p $(@D) && gcc $(CFLAGS) $(CHECKED) $(INCLUDES) $(filter-out %.h,$^) -o $@
+$(BUILT)/bench_unit: $(call plain,demo/bench_unit demo/line demo/clock demo/options) $(LIBRARY)
+$(BUILT)/download: $(call plain,demo/download demo/line demo/clock demo/options) $(LIBRARY)
+$(BUILT)/sample_store: $(call plain,demo/sample_store demo/options) $(LIBRARY)
+$(BUILT)/bench: $(call plain,bench/bench $(REFERENCE)) $(LIBRARY)
+$(PROGRAMS:%=$(BUILT)/%) $(BUILT)/bench:
+	@gcc $(CFLAGS) $^ -o $@
 
-$(BUILT)/line_test: host/tests/line.c host/demo/line.c $(LIBRARY) $(HEADERS)
-	@mkdir -p $(@D) && gcc $(CFLAGS) $(CHECKED) $(INCLUDES) $(filter-out %.h,$^) -o $@
-
-$(BUILT)/slow_peer: host/tests/slow_peer.c host/demo/options.c $(REFERENCE) $(HEADERS)
-	@mkdir -p $(@D) && gcc $(CFLAGS) $(CHECKED) $(INCLUDES) $(filter-out %.h,$^) -o $@
-
-$(BUILT)/bench: host/bench/bench.c $(REFERENCE) $(LIBRARY) $(HEADERS)
-	@mkdir -p $(@D) && gcc $(CFLAGS) $(INCLUDES) $(filter-out %.h,$^) -o $@
+# the slow peer is written without the library
+$(BUILT)/differential: $(call checked,tests/differential tests/support $(REFERENCE)) $(LIBRARY)
+$(BUILT)/download_test: $(call checked,tests/download tests/support $(REFERENCE)) $(LIBRARY)
+$(BUILT)/line_test: $(call checked,tests/line demo/line demo/clock) $(LIBRARY)
+$(BUILT)/slow_peer: $(call checked,tests/slow_peer demo/options demo/clock $(REFERENCE))
+$(TESTS:%=$(BUILT)/%):
+	@gcc $(CFLAGS) $(CHECKED) $^ -o $@
 
 clean:
 	@rm -rf target

@@ -3,6 +3,7 @@
 #include "options.h"
 #include "tacho.h"
 
+#include <limits.h>
 #include <stdio.h>
 #include <stdlib.h>
 #include <string.h>
@@ -12,7 +13,8 @@ static const char help[] =
     "  --store FILE     the bench store (docs/PROTOCOL.md); bytes behind it are not looked at\n"
     "  --line PATH      the serial port to listen on: raw, 8 data bits, one stop bit, 9,600 baud at first; the unit changes the rate\n"
     "                   where the tool confirms a change\n"
-    "  --pty FILE       make a pseudo-terminal instead, and write the path of its other end to FILE\n"
+    "  --pty FILE       make a pseudo-terminal instead, and write the path of its other end to FILE;\n"
+    "                   --rate and --parity have no effect on it\n"
     "  --rate N         keep the port at this baud rate\n"
     "  --parity WHICH   even, odd or none (default even: Appendix 6 asks for it, which is not among this\n"
     "                   build's sources)\n"
@@ -32,11 +34,19 @@ static const char help[] =
 /* The rates of link control, 1 to 5. */
 static const unsigned long bauds[] = {0, 9600, 19200, 38400, 57600, 115200};
 
+/* Without --rate the port follows the unit's rate, beginning at 9,600. */
+#define RATE_FOLLOWED ULONG_MAX
+
 typedef struct {
     const char *store, *line, *pty, *stream, *parity;
     unsigned long kind, rate, lose, repeat, spoil, seed, idle, silence, delay, gap;
     bool list, help;
 } settings;
+
+static line_port port_of(const settings *s)
+{
+    return (line_port){s->rate == RATE_FOLLOWED ? bauds[1] : s->rate, s->parity};
+}
 
 static bool read_settings(int argc, char **argv, settings *s)
 {
@@ -54,11 +64,8 @@ static bool read_settings(int argc, char **argv, settings *s)
         fputs("--store and one of --line, --pty, --list and --stream are needed; --help says more\n", stderr);
         return false;
     }
-    if (s->lose + s->repeat + s->spoil > 1000) {
-        fputs("--lose, --repeat and --spoil are more than a thousand together\n", stderr);
-        return false;
-    }
-    return true;
+    line_port port = port_of(s);
+    return line_port_check(&port) && faults_check(s->lose, s->repeat, s->spoil);
 }
 
 /* What a checked store holds, as 00,31,32@86400: the status. */
@@ -81,7 +88,8 @@ static int write_stream(const char *path, const uint8_t *store, size_t store_len
 static bool open_line(line *l, const settings *s)
 {
     char path[128];
-    if (s->line) return line_open(l, s->line, &(line_port){s->rate ? s->rate : bauds[1], s->parity});
+    line_port port = port_of(s);
+    if (s->line) return line_open(l, s->line, &port);
     if (!line_make(l, path, sizeof path)) return false;
     size_t n = strlen(path);
     path[n] = '\n';
@@ -105,7 +113,8 @@ static int serve(line *l, uint8_t *state, const uint8_t *store, size_t store_len
         tacho_written w = tacho_unit_step(state, TACHO_UNIT_STATE, store, store_len, string, (size_t)n, reply, sizeof reply);
         if (w.number == TACHO_OK && !line_send(l, reply, w.len)) n = -1;
         size_t now = tacho_unit_rate(state, TACHO_UNIT_STATE);
-        if (s->line && !s->rate && now != rate && !line_set_baud(l, bauds[now])) fprintf(stderr, "unit: no rate of %lu baud here\n", bauds[now]);
+        if (s->line && s->rate == RATE_FOLLOWED && now != rate && !line_set_baud(l, bauds[now]))
+            fprintf(stderr, "unit: no rate of %lu baud here\n", bauds[now]);
         if (tacho_unit_phase(state, TACHO_UNIT_STATE) != TACHO_PHASE_CLOSED) stopped = false;
         else if (phase != TACHO_PHASE_CLOSED) stopped = true;
     }
@@ -118,7 +127,8 @@ static int serve(line *l, uint8_t *state, const uint8_t *store, size_t store_len
 
 int main(int argc, char **argv)
 {
-    settings s = {.parity = "even", .kind = 2, .seed = 1, .idle = 10, .silence = 25, .delay = 20};
+    settings s = {.parity = "even", .rate = RATE_FOLLOWED, .kind = 2, .seed = 1, .idle = 10,
+                  .silence = 25, .delay = 20};
     size_t store_len;
     uint8_t state[TACHO_UNIT_STATE];
     if (!read_settings(argc, argv, &s)) return 2;

@@ -1,4 +1,5 @@
 /* The download tool: asks a unit for answers over a serial line, and writes them to a file as DDP_034 has it. */
+#include "clock.h"
 #include "line.h"
 #include "options.h"
 #include "tacho.h"
@@ -72,11 +73,11 @@ static bool run(uint8_t request, uint8_t trep, uint32_t day, const char *what)
         if (!line_send(&l, out, w.len)) break;
         if (outcome() != TACHO_OUTCOME_WAITING) return true;
         /* the wait counts from the last sending: frames that the tool ignores do not make it longer */
-        if (w.len > 0) end = line_now() + (long)wait_ms;
-        long left = end - line_now();
+        if (w.len > 0) end = clock_now() + (long)wait_ms;
+        long left = end - clock_now();
         int n = left > 0 ? line_receive(&l, string, sizeof string, (unsigned long)left, true) : 0;
         if (n < 0) break;
-        if (n > 0 && is_pending(string, (size_t)n) && end < line_now() + PENDING_MS) end = line_now() + PENDING_MS;
+        if (n > 0 && is_pending(string, (size_t)n) && end < clock_now() + PENDING_MS) end = clock_now() + PENDING_MS;
         if (n > 0) w = tacho_tool_arrived(state, sizeof state, string, (size_t)n, room, sizeof room, out, sizeof out);
         else w = tacho_tool_wait_ended(state, sizeof state, room, sizeof room, out, sizeof out);
         progress(what, outcome() != TACHO_OUTCOME_WAITING);
@@ -93,8 +94,8 @@ static bool ask(uint8_t request, uint8_t trep, uint32_t day, const char *what)
     unsigned long begun = 0;
     do {
         /* a request is begun again on an empty line: what is still on its way is let pass, for the time of one wait */
-        long end = line_now() + (long)wait_ms;
-        for (long left; begun > 0 && (left = end - line_now()) > 0;)
+        long end = clock_now() + (long)wait_ms;
+        for (long left; begun > 0 && (left = end - clock_now()) > 0;)
             if (line_receive(&l, late, sizeof late, (unsigned long)left, true) <= 0) break;
         if (!run(request, trep, day, what)) return false;
         begun++;
@@ -226,11 +227,7 @@ int main(int argc, char **argv)
         fputs("--line, --answers and --out are needed; --help says more\n", stderr);
         return 2;
     }
-    if (lose + repeat + spoil > 1000) {
-        fputs("--lose, --repeat and --spoil are more than a thousand together\n", stderr);
-        return 2;
-    }
-    if (!check_answers(answers) || !file_may_be_written(out_path)) return 2;
+    if (!faults_check(lose, repeat, spoil) || !check_answers(answers) || !file_may_be_written(out_path)) return 2;
     l.faults = (line_faults){(unsigned)lose, (unsigned)repeat, (unsigned)spoil};
     l.times = times;
     l.random = seed * 2 + 1;

@@ -1,6 +1,7 @@
 #define _GNU_SOURCE
 #include "line.h"
 
+#include "clock.h"
 #include "tacho.h"
 
 #include <errno.h>
@@ -10,7 +11,6 @@
 #include <stdlib.h>
 #include <string.h>
 #include <termios.h>
-#include <time.h>
 #include <unistd.h>
 
 static const struct { unsigned long baud; speed_t speed; } speeds[] = {
@@ -52,7 +52,7 @@ static bool set_up(int fd, const line_port *port)
     return tcsetattr(fd, TCSANOW, &t) == 0;
 }
 
-bool line_open(line *l, const char *path, const line_port *port)
+bool line_port_check(const line_port *port)
 {
     speed_t speed;
     if (strcmp(port->parity, "even") && strcmp(port->parity, "odd") && strcmp(port->parity, "none")) {
@@ -63,6 +63,12 @@ bool line_open(line *l, const char *path, const line_port *port)
         fprintf(stderr, "--rate %lu: wants 9600, 19200, 38400, 57600, 115200 or 230400\n", port->baud);
         return false;
     }
+    return true;
+}
+
+bool line_open(line *l, const char *path, const line_port *port)
+{
+    if (!line_port_check(port)) return false;
     l->fd = open(path, O_RDWR | O_NOCTTY | O_NONBLOCK);
     if (l->fd < 0) {
         fprintf(stderr, "%s: %s\n", path, strerror(errno));
@@ -107,12 +113,6 @@ static unsigned draw(line *l)
     return (unsigned)(l->random >> 20);
 }
 
-static void pause_ms(unsigned long milliseconds)
-{
-    struct timespec t = {(time_t)(milliseconds / 1000), (long)(milliseconds % 1000) * 1000000};
-    while (nanosleep(&t, &t) && errno == EINTR) continue;
-}
-
 static bool put_all(line *l, const uint8_t *bytes, size_t len)
 {
     while (len > 0) {
@@ -137,10 +137,10 @@ static void drain(line *l)
 
 static bool put(line *l, const uint8_t *bytes, size_t len)
 {
-    if (l->times.rest) pause_ms(l->times.rest);
+    if (l->times.rest) clock_pause(l->times.rest);
     size_t n = l->times.gap ? 1 : len;
     for (size_t i = 0; i < len; i += n) {
-        if (i) pause_ms(l->times.gap);
+        if (i) clock_pause(l->times.gap);
         if (!put_all(l, bytes + i, n)) return false;
         drain(l);
     }
@@ -211,13 +211,6 @@ static int hand_out(line *l, uint8_t *out, size_t out_len, size_t n)
     return (int)copied;
 }
 
-long line_now(void)
-{
-    struct timespec t;
-    clock_gettime(CLOCK_MONOTONIC, &t);
-    return (long)t.tv_sec * 1000 + t.tv_nsec / 1000000;
-}
-
 /* The string that can be handed out now, its length; 0 while it may go on. quiet: no byte came for the time of a silence. */
 static size_t ready_length(const line *l, bool quiet, bool at_tool)
 {
@@ -230,11 +223,11 @@ static size_t ready_length(const line *l, bool quiet, bool at_tool)
 
 int line_receive(line *l, uint8_t *out, size_t out_len, unsigned long milliseconds, bool at_tool)
 {
-    long end = line_now() + (long)milliseconds;
+    long end = clock_now() + (long)milliseconds;
     for (bool quiet = false;;) {
         size_t n = ready_length(l, quiet, at_tool);
         if (n) return hand_out(l, out, out_len, n);
-        long left = l->count ? (long)l->times.silence : end - line_now();
+        long left = l->count ? (long)l->times.silence : end - clock_now();
         struct pollfd p = {l->fd, POLLIN, 0};
         int ready = poll(&p, 1, left < 0 ? 0 : (int)left);
         if (ready < 0 && errno != EINTR) return -1;

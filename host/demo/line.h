@@ -3,6 +3,8 @@
 #ifndef LINE_H
 #define LINE_H
 
+#include "tacho.h"
+
 #include <stdbool.h>
 #include <stddef.h>
 #include <stdint.h>
@@ -23,7 +25,9 @@ typedef struct {
     const char *parity; /* "even", "odd" or "none" */
 } line_port;
 
-enum { LINE_STRING_MOST = 600 };
+/* The longest string. A broken frame and the good one behind it stand in it together, each of the longest, so that it
+ * is seen where the good one begins; noise that goes on for longer is handed out in parts. */
+enum { LINE_STRING_MOST = 2 * TACHO_FRAME_MOST };
 
 typedef struct {
     int fd, other; /* the line, and the other end of a pseudo-terminal that was made here, kept open; -1 where there is none */
@@ -35,14 +39,14 @@ typedef struct {
     size_t count;
 } line;
 
+/* Whether a port can be set up so. False with a message on standard error. */
+bool line_port_check(const line_port *port);
+
 /* Opens a serial port by its path. False with a message on standard error. */
 bool line_open(line *l, const char *path, const line_port *port);
 
 /* Makes a pseudo-terminal; its other end is opened by the path handed back. */
 bool line_make(line *l, char *path, size_t path_len);
-
-/* Milliseconds of a clock that only goes forward. */
-long line_now(void);
 
 /* Sets the port to another baud rate once all that was put out has gone. False where the port has no such rate. */
 bool line_set_baud(line *l, unsigned long baud);

@@ -76,16 +76,28 @@ unsigned char *file_read(const char *path, size_t most, size_t *len)
     return bytes;
 }
 
+bool faults_check(unsigned long lose, unsigned long repeat, unsigned long spoil)
+{
+    if (lose + repeat + spoil <= 1000) return true;
+    fputs("--lose, --repeat and --spoil are more than a thousand together\n", stderr);
+    return false;
+}
+
 int help_said(const char *help)
 {
     return fputs(help, stdout) < 0 || fflush(stdout) ? 2 : 0;
 }
 
-/* Where the bytes for the path go first: beside it, or to the path itself where it is a device, a pipe or a link. NULL without memory. */
+/* Where the bytes for the path go first: beside it, or to the path itself where it is a device, a pipe or a link. NULL
+ * without memory, and for an empty path: it names no file, though one could be written beside it. */
 static char *place_for(const char *path, bool *beside)
 {
     struct stat s;
     char *place = NULL;
+    if (*path == 0) {
+        errno = ENOENT;
+        return NULL;
+    }
     *beside = lstat(path, &s) != 0 || S_ISREG(s.st_mode);
     return asprintf(&place, "%s%s", path, *beside ? ".part" : "") < 0 ? NULL : place;
 }

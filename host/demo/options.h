@@ -17,6 +17,9 @@ typedef struct {
  * where not as many words are left as wanted (`words`); they stand last in argv then. True at once at --help. */
 bool options_read(int argc, char **argv, const program_option *options, size_t count, int words);
 
+/* Whether of a thousand frames so many can be lost, repeated and spoiled. False with a message. */
+bool faults_check(unsigned long lose, unsigned long repeat, unsigned long spoil);
+
 /* Puts the help out: the status. */
 int help_said(const char *help);
 

@@ -84,6 +84,29 @@ enum {
     TACHO_STORE_MOST = 60516   /* the longest bench store: 64 answers and 60,000 bytes of stream */
 };
 
+/* Places of the fields in a packed unit and a packed tool; of a longer field, its first byte. A program that only reads
+ * a state uses the readers below: the places are for a host that builds states, or keeps them in a form of its own.
+ * They are binding, as the sizes are. */
+enum {
+    TACHO_UNIT_AT_KIND = 0,
+    TACHO_UNIT_AT_RATE = 1,
+    TACHO_UNIT_AT_PENDING = 2,
+    TACHO_UNIT_AT_PHASE = 3,
+    TACHO_UNIT_AT_TREP = 4,
+    TACHO_UNIT_AT_DAY = 5,
+    TACHO_UNIT_AT_LAST = 9
+};
+enum {
+    TACHO_TOOL_AT_REQUEST = 0,
+    TACHO_TOOL_AT_OUTCOME = 1,
+    TACHO_TOOL_AT_CODE = 2,
+    TACHO_TOOL_AT_TREP = 3,
+    TACHO_TOOL_AT_DAY = 4,
+    TACHO_TOOL_AT_SENDINGS = 8,
+    TACHO_TOOL_AT_EXPECTED = 9,
+    TACHO_TOOL_AT_HELD = 11
+};
+
 /* What a reader gives for bytes that are no state. */
 #define TACHO_NO_STATE SIZE_MAX
 

@@ -13,7 +13,8 @@
 #include <string.h>
 #include <time.h>
 
-enum { LONGEST = 60600 };
+/* The longest buffers that are lent: stores and rooms with bytes to spare, and states that are some bytes too long. */
+enum { LONGEST = TACHO_STORE_MOST + 100, STATE_ROOM = 20 };
 
 /* The calls of tacho.h with the numbers of document 01 that each can give, 0 first, then in the order of its checks. */
 typedef enum {
@@ -257,7 +258,7 @@ static size_t some_reply(uint8_t *d, uint16_t near)
     random_bytes(d, n);
     d[0] = 0x76;
     d[1] = some_trep();
-    if (n > 3) d[2] = (uint8_t)(number >> 8), d[3] = (uint8_t)number;
+    if (n > 3) memcpy(d + 2, (const uint8_t[]){REF_TWO_BYTES(number)}, 2);
     return n;
 }
 
@@ -276,12 +277,12 @@ static size_t some_request(uint8_t *d, uint16_t near)
     if (kind < 5) {
         uint8_t trep = some_trep();
         uint32_t day = some_day(trep);
-        uint8_t b[6] = {0x36, trep, (uint8_t)(day >> 24), (uint8_t)(day >> 16), (uint8_t)(day >> 8), (uint8_t)day};
+        uint8_t b[6] = {0x36, trep, REF_FOUR_BYTES(day)};
         memcpy(d, b, sizeof b);
         return (trep & 0x0F) == 2 ? 6 : 2;
     }
     uint16_t code = some_number(near);
-    uint8_t b[4] = {0x83, 0x76, (uint8_t)(code >> 8), (uint8_t)code};
+    uint8_t b[4] = {0x83, 0x76, REF_TWO_BYTES(code)};
     memcpy(d, b, sizeof b);
     return 4;
 }
@@ -341,13 +342,14 @@ static size_t some_store(uint8_t *s)
     size_t room = random_below(4) ? 2000 : LONGEST;
     memset(s, 0, room);
     some_answers(s, room);
-    size_t n = 4 + 8 * (size_t)(s[0] << 8 | s[1]) + (size_t)(s[2] << 8 | s[3]);
+    tacho_part stream = ref_store_stream(s, room);
+    size_t n = stream.start + stream.len, front = REF_STORE_HEADER + REF_STORE_ENTRY;
     if (random_below(5) == 0) damage(s, &n, room);
     if (random_below(4) == 0 && n + 20 < room) {
         random_bytes(s + n, 20);
         n += random_below(21);
     }
-    if (random_below(12) == 0 && n > 12) damage(s, &(size_t){12}, 12);
+    if (random_below(12) == 0 && n > front) damage(s, &(size_t){front}, front);
     return n;
 }
 
@@ -356,12 +358,11 @@ static void name_in(const uint8_t *s, size_t n, uint8_t *trep, uint32_t *day)
 {
     *trep = some_trep();
     *day = some_day(*trep);
-    if (ref_store_check(s, n) || random_below(5) == 0) return;
-    uint32_t answers = (uint32_t)(s[0] << 8 | s[1]);
-    if (answers == 0) return;
-    const uint8_t *e = s + 4 + 8 * random_below(answers);
-    *day = (uint32_t)e[0] << 24 | (uint32_t)e[1] << 16 | (uint32_t)e[2] << 8 | e[3];
-    *trep = s[4 + 8 * answers + (uint32_t)(e[4] << 8 | e[5]) + 1];
+    tacho_counted answers = ref_store_count(s, n);
+    if (answers.count == 0 || random_below(5) == 0) return;
+    tacho_held held = ref_store_answer(s, n, random_below((uint32_t)answers.count));
+    *trep = held.trep;
+    *day = held.day;
 }
 
 /* The name of an answer that is split, and how many sub messages it takes; 0 where the store shows none. */
@@ -375,14 +376,14 @@ static size_t split_in(const uint8_t *s, size_t n, uint8_t *trep, uint32_t *day)
     return 0;
 }
 
-/* Bytes 4 to 10 of a unit that sends: mostly one of the answer's sub messages, often the last. */
+/* What a unit that sends has besides: mostly one of the answer's sub messages, often the last. */
 static void some_sending(uint8_t *b, uint8_t trep, uint32_t day, size_t count)
 {
     uint32_t last = random_below(3) ? 1 + random_below((uint32_t)count) : (uint32_t)count;
     if (random_below(8) == 0) last = some_number((uint16_t)count);
-    uint8_t rest[7] = {trep, (uint8_t)(day >> 24), (uint8_t)(day >> 16), (uint8_t)(day >> 8), (uint8_t)day,
-                       (uint8_t)(last >> 8), (uint8_t)last};
-    memcpy(b + 4, rest, 7);
+    b[TACHO_UNIT_AT_TREP] = trep;
+    memcpy(b + TACHO_UNIT_AT_DAY, (const uint8_t[]){REF_FOUR_BYTES(day)}, 4);
+    memcpy(b + TACHO_UNIT_AT_LAST, (const uint8_t[]){REF_TWO_BYTES(last)}, 2);
 }
 
 /* A unit's state: often sending, if the store shows an answer to send. */
@@ -391,36 +392,41 @@ static size_t some_unit_state(uint8_t *b, const uint8_t *store, size_t store_len
     uint8_t trep;
     uint32_t day;
     size_t n = TACHO_UNIT_STATE, count = split_in(store, store_len, &trep, &day);
-    memset(b, 0, 16);
-    b[0] = (uint8_t)random_below(random_below(20) ? 3 : 5);
-    b[1] = (uint8_t)(random_below(20) ? 1 + random_below(5) : random_below(256));
-    b[2] = (uint8_t)(random_below(20) ? random_below(6) : random_below(256));
-    b[3] = (uint8_t)(random_below(20) ? random_below(5) : random_below(256));
-    if (count > 0 && random_below(3) == 0) b[3] = TACHO_PHASE_SENDING;
-    if (b[3] == TACHO_PHASE_SENDING) some_sending(b, trep, day, count);
-    if (random_below(20) == 0) damage(b, &n, 16);
+    memset(b, 0, STATE_ROOM);
+    b[TACHO_UNIT_AT_KIND] = (uint8_t)random_below(random_below(20) ? 3 : 5);
+    b[TACHO_UNIT_AT_RATE] = (uint8_t)(random_below(20) ? 1 + random_below(5) : random_below(256));
+    b[TACHO_UNIT_AT_PENDING] = (uint8_t)(random_below(20) ? random_below(6) : random_below(256));
+    b[TACHO_UNIT_AT_PHASE] = (uint8_t)(random_below(20) ? random_below(5) : random_below(256));
+    if (count > 0 && random_below(3) == 0) b[TACHO_UNIT_AT_PHASE] = TACHO_PHASE_SENDING;
+    if (b[TACHO_UNIT_AT_PHASE] == TACHO_PHASE_SENDING) some_sending(b, trep, day, count);
+    if (random_below(20) == 0) damage(b, &n, STATE_ROOM);
     return n;
+}
+
+/* What a tool in a transfer has besides: the bytes held are mostly those that belong to the number expected. */
+static void some_transfer(uint8_t *b)
+{
+    uint8_t trep = some_trep();
+    uint32_t day = some_day(trep), expected = random_below(4) ? 1 + random_below(3) : random_below(260);
+    uint32_t held = expected == 1 ? 0 : 2 + 251 * (expected - 1);
+    b[TACHO_TOOL_AT_TREP] = trep;
+    memcpy(b + TACHO_TOOL_AT_DAY, (const uint8_t[]){REF_FOUR_BYTES(day)}, 4);
+    memcpy(b + TACHO_TOOL_AT_EXPECTED, (const uint8_t[]){REF_TWO_BYTES(expected)}, 2);
+    memcpy(b + TACHO_TOOL_AT_HELD, (const uint8_t[]){REF_FOUR_BYTES(held)}, 4);
 }
 
 static size_t some_tool_state(uint8_t *b)
 {
     size_t n = TACHO_TOOL_STATE;
-    uint8_t trep = some_trep();
-    uint32_t day = some_day(trep), expected = random_below(4) ? 1 + random_below(3) : random_below(260);
-    uint32_t held = expected == 1 ? 0 : 2 + 251 * (expected - 1);
-    memset(b, 0, 20);
-    b[0] = (uint8_t)(random_below(3) ? TACHO_REQUEST_TRANSFER : random_below(6));
-    b[1] = (uint8_t)(random_below(4) ? TACHO_OUTCOME_WAITING : random_below(6));
-    b[2] = b[1] == TACHO_OUTCOME_REFUSED ? (uint8_t)random_below(256) : 0;
-    b[8] = (uint8_t)(random_below(20) ? 1 + random_below(3) : random_below(256));
-    if (b[0] == TACHO_REQUEST_TRANSFER || random_below(8) == 0) {
-        uint8_t name[5] = {trep, (uint8_t)(day >> 24), (uint8_t)(day >> 16), (uint8_t)(day >> 8), (uint8_t)day};
-        memcpy(b + 3, name, 5);
-        b[9] = (uint8_t)(expected >> 8), b[10] = (uint8_t)expected;
-        b[11] = (uint8_t)(held >> 24), b[12] = (uint8_t)(held >> 16);
-        b[13] = (uint8_t)(held >> 8), b[14] = (uint8_t)held;
-    }
-    if (random_below(25) == 0) damage(b, &n, 20);
+    uint8_t request = (uint8_t)(random_below(3) ? TACHO_REQUEST_TRANSFER : random_below(6));
+    uint8_t outcome = (uint8_t)(random_below(4) ? TACHO_OUTCOME_WAITING : random_below(6));
+    memset(b, 0, STATE_ROOM);
+    b[TACHO_TOOL_AT_REQUEST] = request;
+    b[TACHO_TOOL_AT_OUTCOME] = outcome;
+    b[TACHO_TOOL_AT_CODE] = outcome == TACHO_OUTCOME_REFUSED ? (uint8_t)random_below(256) : 0;
+    b[TACHO_TOOL_AT_SENDINGS] = (uint8_t)(random_below(20) ? 1 + random_below(3) : random_below(256));
+    if (request == TACHO_REQUEST_TRANSFER || random_below(8) == 0) some_transfer(b);
+    if (random_below(25) == 0) damage(b, &n, STATE_ROOM);
     return n;
 }
 
@@ -432,18 +438,17 @@ static size_t some_body(uint8_t *b)
         uint32_t count = random_below(12);
         if (n + 5 + size * count > 4000) break;
         random_bytes(b + n, 5 + size * count);
-        b[n + 1] = (uint8_t)(size >> 8), b[n + 2] = (uint8_t)size;
-        b[n + 3] = (uint8_t)(count >> 8), b[n + 4] = (uint8_t)count;
+        memcpy(b + n + 1, (const uint8_t[]){REF_TWO_BYTES(size), REF_TWO_BYTES(count)}, 4);
         n += 5 + size * count;
     }
     if (random_below(6) == 0) damage(b, &n, 4000);
     return n;
 }
 
-/* Bytes 9 and 10 of a packed state: the number that the unit sent last, or that the tool expects. */
-static uint16_t number_of(const uint8_t *state, size_t len)
+/* A number in two bytes of a packed state, 0 where that is too short: what the unit sent last or the tool expects. */
+static uint16_t number_at(const uint8_t *state, size_t len, size_t at)
 {
-    return len > 10 ? (uint16_t)(state[9] << 8 | state[10]) : 0;
+    return len > at + 1 ? (uint16_t)(state[at] << 8 | state[at + 1]) : 0;
 }
 
 /* One round of each call */
@@ -533,9 +538,9 @@ static void arrays(void)
 
 static void units(void)
 {
-    uint8_t state[16], frame[300], kind = (uint8_t)random_below(5);
+    uint8_t state[STATE_ROOM], frame[300], kind = (uint8_t)random_below(5);
     size_t n = some_store(bytes), state_len = some_unit_state(state, bytes, n);
-    size_t fresh_len = random_below(4) ? random_below(16) : TACHO_UNIT_STATE;
+    size_t fresh_len = random_below(4) ? random_below(STATE_ROOM) : TACHO_UNIT_STATE;
     uint8_t *s = lend(0, NULL, fresh_len);
     uint8_t a = tacho_unit_fresh(kind, s, fresh_len), b = ref_unit_fresh(kind, copy[0], fresh_len);
     compare(UNIT_FRESH, 1, of_number(a), of_number(b));
@@ -545,7 +550,7 @@ static void units(void)
     compare(UNIT_PHASE, 1, of_read(tacho_unit_phase(s, state_len)), of_read(ref_unit_phase(copy[0], state_len)));
     const uint8_t *store = lend(1, bytes, n);
     for (int step = 0; step < 6; step++) {
-        size_t frame_len = some_frame(frame, false, number_of(s, state_len));
+        size_t frame_len = some_frame(frame, false, number_at(s, state_len, TACHO_UNIT_AT_LAST));
         size_t room = random_below(12) ? 260 + random_below(3) : random_below(260);
         if (step) s = lend(0, s, state_len), store = lend(1, store, n);
         const uint8_t *f = lend(2, frame, frame_len);
@@ -571,10 +576,12 @@ static void tool_begins(uint8_t *s, size_t state_len, uint8_t *out, size_t out_l
 static void tool_hears(uint8_t *s, size_t state_len, uint8_t *room, size_t room_len, uint8_t *out, size_t out_len)
 {
     uint8_t frame[300];
-    size_t n = some_frame(frame, true, number_of(s, state_len));
+    size_t n = some_frame(frame, true, number_at(s, state_len, TACHO_TOOL_AT_EXPECTED));
+    uint8_t *data = frame + REF_FRAME_DATA;
     /* often the sub message that is expected, so that whole transfers are walked through */
-    if (random_below(2) && n > 8 && state_len == TACHO_TOOL_STATE && frame[4] == 0x76) {
-        frame[5] = s[3], frame[6] = s[9], frame[7] = s[10];
+    if (random_below(2) && n > REF_FRAME_DATA + 4 && state_len == TACHO_TOOL_STATE && data[0] == 0x76) {
+        data[1] = s[TACHO_TOOL_AT_TREP];
+        memcpy(data + 2, s + TACHO_TOOL_AT_EXPECTED, 2);
         frame[n - 1] = ref_checksum(frame, n - 1);
     }
     const uint8_t *f = lend(3, frame, n);
@@ -592,9 +599,9 @@ static void tool_waited(uint8_t *s, size_t state_len, uint8_t *room, size_t room
 
 static void tools(void)
 {
-    uint8_t state[20];
+    uint8_t state[STATE_ROOM];
     size_t state_len = some_tool_state(state);
-    size_t fresh_len = random_below(4) ? random_below(20) : TACHO_TOOL_STATE;
+    size_t fresh_len = random_below(4) ? random_below(STATE_ROOM) : TACHO_TOOL_STATE;
     uint8_t *s = lend(0, NULL, fresh_len);
     compare(TOOL_FRESH, 1, of_number(tacho_tool_fresh(s, fresh_len)), of_number(ref_tool_fresh(copy[0], fresh_len)));
     size_t room_len = random_below(3) ? 600 + random_below(400) : some_length(60001);

@@ -13,7 +13,7 @@
 #include <string.h>
 #include <time.h>
 
-enum { STORE = 60600, ROOM = 60000, STRINGS = 48, FRAMES = 240 };
+enum { STORE = TACHO_STORE_MOST, ROOM = TACHO_ANSWER_MOST, STRINGS = 48, FRAMES = 240 };
 
 typedef struct {
     uint8_t bytes[TACHO_FRAME_MOST + 4];
@@ -72,19 +72,23 @@ static void choose_answer(void)
 /* The unit holds the answer, and where there is place another one that it may be sending at the begin. */
 static void set_up_unit(void)
 {
-    static const uint8_t granted[TACHO_UNIT_STATE] = {2, 1, 0, TACHO_PHASE_GRANTED};
-    static const uint8_t sending[TACHO_UNIT_STATE] = {2, 1, 0, TACHO_PHASE_SENDING, 2, 0, 0, 0, 0, 0, 2};
     static uint8_t other[600];
+    uint8_t sending = 0x02; /* another kind's activities */
     bool place = answer_len + sizeof other <= 60000;
     memset(store, 0, sizeof store);
     random_bytes(other, sizeof other);
     other[0] = 0x76;
-    other[1] = 0x02; /* another kind's activities */
+    other[1] = sending;
     if (place) ref_store_append(store, STORE, other, sizeof other, 0);
     tacho_written w = ref_store_append(store, STORE, answer, answer_len, day);
     if (w.number) fail("the test's store refuses the answer by %u", w.number);
     store_len = w.len;
-    memcpy(unit, place && random_below(2) ? sending : granted, sizeof unit);
+    tacho_unit_fresh(TACHO_KIND_GENERATION_2_VERSION_2, unit, sizeof unit);
+    unit[TACHO_UNIT_AT_PHASE] = TACHO_PHASE_GRANTED;
+    if (!place || random_below(2)) return;
+    unit[TACHO_UNIT_AT_PHASE] = TACHO_PHASE_SENDING;
+    unit[TACHO_UNIT_AT_TREP] = sending;
+    memcpy(unit + TACHO_UNIT_AT_LAST, (const uint8_t[]){REF_TWO_BYTES(2)}, 2);
 }
 
 /* The tool has begun, its frame alone on the line, the book empty. The room may be no longer than the answer. */
@@ -106,6 +110,11 @@ static void set_up(void)
     put_out = w.len > 0;
 }
 
+static size_t outcome(void)
+{
+    return tacho_tool_outcome(tool, sizeof tool);
+}
+
 /* The book has ended. */
 static bool ended(void)
 {
@@ -115,16 +124,16 @@ static bool ended(void)
 /* The tool's outcome: done exactly at p = q, "no answer" exactly at f = 3, else it waits. */
 static void check_outcome(void)
 {
-    unsigned outcome = tool[1];
-    if ((outcome == TACHO_OUTCOME_DONE) != (p == q)) fail("the tool's outcome is %u at frame %zu of %zu", outcome, p, q);
-    if ((outcome == TACHO_OUTCOME_NO_ANSWER) != (f == 3)) fail("the tool's outcome is %u after %u failed waits", outcome, f);
-    if (!ended() && outcome != TACHO_OUTCOME_WAITING) fail("the tool's outcome is %u, and the book has not ended", outcome);
+    size_t is = outcome();
+    if ((is == TACHO_OUTCOME_DONE) != (p == q)) fail("the tool's outcome is %zu at frame %zu of %zu", is, p, q);
+    if ((is == TACHO_OUTCOME_NO_ANSWER) != (f == 3)) fail("the tool's outcome is %zu after %u failed waits", is, f);
+    if (!ended() && is != TACHO_OUTCOME_WAITING) fail("the tool's outcome is %zu, and the book has not ended", is);
 }
 
 /* The tool holds 76, TREP and the data of frames 1 to p; no byte behind those has changed, in the room or past it. */
 static void check_held(void)
 {
-    size_t held = (size_t)tool[11] << 24 | (size_t)tool[12] << 16 | (size_t)tool[13] << 8 | tool[14];
+    size_t held = tacho_tool_held(tool, sizeof tool);
     size_t wanted = p == 0 ? 0 : p == q ? answer_len : 2 + 251 * p;
     if (held != wanted) fail("the tool holds %zu bytes, wanted %zu with %zu of %zu frames taken", held, wanted, p, q);
     if (memcmp(room, answer, held)) fail("the %zu bytes held are not those of the answer", held);
@@ -135,11 +144,14 @@ static void check_held(void)
  * number that the wait is for. A tool that is done keeps the last two as its last wait had them. */
 static void check_state(void)
 {
-    uint8_t name[5] = {trep, (uint8_t)(day >> 24), (uint8_t)(day >> 16), (uint8_t)(day >> 8), (uint8_t)day};
-    size_t expected = (size_t)tool[9] << 8 | tool[10], sendings = put_out - put_out_before;
-    if (tool[0] != TACHO_REQUEST_TRANSFER || memcmp(tool + 3, name, sizeof name)) fail("the request, TREP or day has changed");
-    if (tool[2] != 0) fail("the tool has a wire code, %02X, and was not refused", tool[2]);
-    if (tool[8] != sendings) fail("the tool counts %u sendings, %zu frames were put out", tool[8], sendings);
+    uint8_t begun_day[4] = {REF_FOUR_BYTES(day)};
+    size_t expected = tacho_tool_expected(tool, sizeof tool), code = tacho_tool_code(tool, sizeof tool);
+    size_t counted = tool[TACHO_TOOL_AT_SENDINGS], sendings = put_out - put_out_before;
+    if (tool[TACHO_TOOL_AT_REQUEST] != TACHO_REQUEST_TRANSFER) fail("the request has changed");
+    if (tool[TACHO_TOOL_AT_TREP] != trep) fail("the TREP has changed");
+    if (memcmp(tool + TACHO_TOOL_AT_DAY, begun_day, sizeof begun_day)) fail("the day has changed");
+    if (code != 0) fail("the tool has a wire code, %02zX, and was not refused", code);
+    if (counted != sendings) fail("the tool counts %zu sendings, %zu frames were put out", counted, sendings);
     if (expected != (p < q ? p + 1 : q)) fail("number %zu is expected, %zu of %zu frames are taken", expected, p, q);
 }
 
@@ -261,8 +273,8 @@ static void bad_line(void)
         else at_tool();
         check();
     }
-    done += tool[1] == TACHO_OUTCOME_DONE;
-    gave_up += tool[1] == TACHO_OUTCOME_NO_ANSWER;
+    done += outcome() == TACHO_OUTCOME_DONE;
+    gave_up += outcome() == TACHO_OUTCOME_NO_ANSWER;
 }
 
 /* Done comes at arrival q: check() lets no tool be done before, and this loop none wait longer. */
@@ -270,14 +282,14 @@ static void clean_line(void)
 {
     set_up();
     check();
-    while (tool[1] == TACHO_OUTCOME_WAITING) {
+    while (outcome() == TACHO_OUTCOME_WAITING) {
         if (to_unit.count + to_tool.count == 0) fail("a clean line is empty before the end");
         if (arrivals == q) fail("not done at arrival %zu", q);
         if (random_below(2)) at_unit(TACHO_FRAME_MOST);
         else at_tool();
         check();
     }
-    if (tool[1] != TACHO_OUTCOME_DONE) fail("the tool's outcome on a clean line is %u", tool[1]);
+    if (outcome() != TACHO_OUTCOME_DONE) fail("the tool's outcome on a clean line is %zu", outcome());
 }
 
 int main(int argc, char **argv)

@@ -3,6 +3,7 @@
  * cut off, two at once. A process of its own writes them to the other end of a pseudo-terminal.
  */
 #define _GNU_SOURCE
+#include "clock.h"
 #include "line.h"
 #include "tacho.h"
 
@@ -11,23 +12,17 @@
 #include <stdlib.h>
 #include <string.h>
 #include <sys/wait.h>
-#include <time.h>
 #include <unistd.h>
 
 static unsigned passed;
 static line l;
 static char path[128];
 
-static void pause_ms(long n)
-{
-    nanosleep(&(struct timespec){n / 1000, n % 1000 * 1000000}, NULL);
-}
-
 /* What the peer does: so many bytes at a time, with a gap between the clumps, after a wait. */
 typedef struct {
     const uint8_t *bytes;
     size_t len, clump;
-    long gap, wait;
+    unsigned long gap, wait;
 } script;
 
 static pid_t play(script s)
@@ -35,9 +30,9 @@ static pid_t play(script s)
     pid_t child = fork();
     if (child) return child;
     int fd = open(path, O_RDWR | O_NOCTTY);
-    pause_ms(s.wait);
+    clock_pause(s.wait);
     for (size_t i = 0; i < s.len; i += s.clump) {
-        if (i) pause_ms(s.gap);
+        if (i) clock_pause(s.gap);
         size_t n = s.len - i < s.clump ? s.len - i : s.clump;
         if (write(fd, s.bytes + i, n) != (ssize_t)n) _exit(1);
     }
@@ -77,17 +72,44 @@ static void one(const char *what, script s)
     comes(what, NULL, 0, 30);
 }
 
-/* A broken string, then a good frame right behind it: two strings. */
+/* One string, then another right behind it, so many bytes at a time: two strings. */
+static void two(const char *what, const uint8_t *first, size_t first_len, const uint8_t *second, size_t second_len,
+                size_t clump)
+{
+    memmove(bytes, first, first_len);
+    memcpy(bytes + first_len, second, second_len);
+    pid_t peer = play((script){bytes, first_len + second_len, clump, 1, 0});
+    comes(what, bytes, first_len, 1000);
+    comes(what, second, second_len, 1000);
+    waitpid(peer, NULL, 0);
+    comes(what, NULL, 0, 30);
+}
+
+/* A full frame with one byte changed, then a good frame. */
 static void broken_then_good(const char *what, size_t at, uint8_t value)
 {
     memcpy(bytes, full, full_len);
     bytes[at] = value;
-    memcpy(bytes + full_len, reply, reply_len);
-    pid_t peer = play((script){bytes, full_len + reply_len, 64, 1, 0});
-    comes(what, bytes, full_len, 1000);
-    comes(what, reply, reply_len, 1000);
-    waitpid(peer, NULL, 0);
-    comes(what, NULL, 0, 30);
+    two(what, bytes, full_len, reply, reply_len, 64);
+}
+
+static void broken_strings(void)
+{
+    uint8_t broken[TACHO_FRAME_MOST];
+    broken_then_good("a broken checksum before a good frame", full_len - 1, (uint8_t)(full[full_len - 1] ^ 1));
+    broken_then_good("a smaller LEN before a good frame", 3, 7);
+    broken_then_good("a wrong first byte before a good frame", 0, 0x00);
+    memcpy(broken, full, full_len);
+    broken[10] ^= 1;
+    two("the longest string: a broken full frame, then a good one", broken, full_len, full, full_len, sizeof bytes);
+    memcpy(broken, reply, reply_len);
+    broken[3] = 0xF0;
+    two("a LEN that reaches into the good frame behind it", broken, reply_len, full, full_len, 64);
+    /* a good frame among the data of a broken one is none of its own */
+    memcpy(broken, full, full_len);
+    memcpy(broken + 20, reply, reply_len);
+    one("a frame within the data of a broken one", (script){broken, full_len, 50, 5, 0});
+    one("a peer that stops mid-frame", (script){full, 100, 100, 0, 0});
 }
 
 int main(void)
@@ -98,28 +120,8 @@ int main(void)
     one("a frame in 260 reads", (script){full, full_len, 1, 2, 0});
     one("a frame in clumps with gaps of 20 ms", (script){full, full_len, 37, 20, 0});
     one("a reply after 900 ms", (script){reply, reply_len, reply_len, 0, 900});
-    memcpy(bytes, reply, reply_len);
-    memcpy(bytes + reply_len, full, full_len);
-    pid_t peer = play((script){bytes, reply_len + full_len, sizeof bytes, 0, 0});
-    comes("two frames in one read, the first", reply, reply_len, 1000);
-    comes("two frames in one read, the second", full, full_len, 1000);
-    waitpid(peer, NULL, 0);
-    broken_then_good("a broken checksum before a good frame", full_len - 1, (uint8_t)(full[full_len - 1] ^ 1));
-    broken_then_good("a smaller LEN before a good frame", 3, 7);
-    broken_then_good("a wrong first byte before a good frame", 0, 0x00);
-    /* a LEN that reaches into the good frame behind it */
-    memcpy(bytes, reply, reply_len);
-    bytes[3] = 0xF0;
-    memcpy(bytes + reply_len, full, full_len);
-    peer = play((script){bytes, reply_len + full_len, 64, 1, 0});
-    comes("a larger LEN before a good frame", bytes, reply_len, 1000);
-    comes("a good frame behind a larger LEN", full, full_len, 1000);
-    waitpid(peer, NULL, 0);
-    /* a good frame among the data of a broken one is none of its own */
-    memcpy(bytes, full, full_len);
-    memcpy(bytes + 20, reply, reply_len);
-    one("a frame within the data of a broken one", (script){bytes, full_len, 50, 5, 0});
-    one("a peer that stops mid-frame", (script){full, 100, 100, 0, 0});
+    two("two frames in one read", reply, reply_len, full, full_len, sizeof bytes);
+    broken_strings();
     comes("nothing", NULL, 0, 20);
     /* the line is gone */
     close(l.other);

@@ -7,6 +7,7 @@
  *   slow_peer tool LINE TREP..     noise first, then start, session, upload, each transfer, exit and stop; prints the bytes of each answer
  */
 #define _GNU_SOURCE
+#include "clock.h"
 #include "options.h"
 #include "reference.h"
 
@@ -16,27 +17,21 @@
 #include <stdlib.h>
 #include <string.h>
 #include <termios.h>
-#include <time.h>
 #include <unistd.h>
 
 static int fd, other;
 static unsigned turn;
 
-static void pause_ms(long n)
-{
-    nanosleep(&(struct timespec){n / 1000, n % 1000 * 1000000}, NULL);
-}
-
 static void put(const uint8_t *bytes, size_t len)
 {
-    pause_ms(turn == 3 ? 900 : 20 + turn * 7 % 41);
+    clock_pause(turn == 3 ? 900 : 20 + turn * 7 % 41);
     turn++;
     for (size_t i = 0; i < len;) {
         size_t n = turn % 3 ? 1 + (i * 13 + turn * 29) % 60 : 1;
         if (n > len - i) n = len - i;
         if (write(fd, bytes + i, n) != (ssize_t)n) exit(1);
         i += n;
-        pause_ms(n == 1 && turn % 3 == 0 ? 1 : (long)(i * 5 % 16));
+        clock_pause(n == 1 && turn % 3 == 0 ? 1 : i * 5 % 16);
     }
 }
 
@@ -75,7 +70,7 @@ static int unit(const char *store_path)
     while ((n = get(frame)) > 0) {
         tacho_written w = ref_unit_step(state, sizeof state, store, store_len, frame, n, reply, sizeof reply);
         if (w.number) break;
-        if (!pended && w.len && reply[4] == 0x76) {
+        if (!pended && w.len && reply[REF_FRAME_DATA] == 0x76) {
             pend();
             pended = true;
         }
@@ -109,7 +104,7 @@ static int tool(int count, char **treps)
     uint8_t state[TACHO_TOOL_STATE];
     ref_tool_fresh(state, sizeof state);
     put((const uint8_t[]){0x00, 0xFF, 0x81, 0x13}, 4);
-    pause_ms(100);
+    clock_pause(100);
     for (uint8_t r = TACHO_REQUEST_START; r <= TACHO_REQUEST_UPLOAD; r++) ask(r, 0, state, room);
     for (int i = 0; i < count; i++) {
         uint8_t trep = (uint8_t)strtoul(treps[i], NULL, 16);
@@ -128,7 +123,7 @@ static bool replied(const uint8_t *data, size_t len, uint8_t sid)
     static uint8_t frame[300];
     size_t n = ref_frame_write(data, len, false, frame, sizeof frame).len;
     put(frame, n);
-    return get(frame) > 4 && frame[4] == sid;
+    return get(frame) > REF_FRAME_DATA && frame[REF_FRAME_DATA] == sid;
 }
 
 /* The rate that the unit's end of the line has, once it had time to set it. */
@@ -138,7 +133,7 @@ static bool is_set(const char *baud)
         {"9600", B9600}, {"19200", B19200}, {"38400", B38400}, {"57600", B57600}, {"115200", B115200},
     };
     struct termios t;
-    pause_ms(200);
+    clock_pause(200);
     if (tcgetattr(other, &t)) return false;
     for (size_t i = 0; i < sizeof known / sizeof *known; i++)
         if (strcmp(known[i].baud, baud) == 0 && cfgetospeed(&t) == known[i].speed) return true;
@@ -151,7 +146,8 @@ static int rate(int count, char **rates)
     static uint8_t frame[300];
     const uint8_t start[] = {0x81, 0xEE, 0xF0, 0x81, 0xE0};
     size_t heard = 0;
-    pause_ms(300); /* what comes before the unit has opened its port is dropped, so the start is sent up to three times */
+    /* what comes before the unit has opened its port is dropped, so the start is sent up to three times */
+    clock_pause(300);
     for (int i = 0; i < 3 && heard == 0; i++) {
         put(start, sizeof start);
         heard = get(frame);

@@ -28,7 +28,7 @@ tacho_part ref_frame_data(const uint8_t *f, size_t n, bool at_tool)
     uint8_t number = ref_frame_check(f, n, at_tool);
     if (number) return (tacho_part){number, 0, 0};
     if (f[0] == 0x81) return (tacho_part){0, 3, 1};
-    return (tacho_part){0, 4, f[3]};
+    return (tacho_part){0, REF_FRAME_DATA, f[3]};
 }
 
 /* The frame whose data is a head and then a body. */
@@ -42,8 +42,8 @@ static tacho_written frame_of(const uint8_t *head, size_t head_len, const uint8_
     out[1] = to_tool ? TOOL : UNIT;
     out[2] = to_tool ? UNIT : TOOL;
     out[3] = (uint8_t)n;
-    if (head_len) memcpy(out + 4, head, head_len);
-    if (body_len) memcpy(out + 4 + head_len, body, body_len);
+    if (head_len) memcpy(out + REF_FRAME_DATA, head, head_len);
+    if (body_len) memcpy(out + REF_FRAME_DATA + head_len, body, body_len);
     out[n + 4] = ref_checksum(out, n + 4);
     return (tacho_written){0, n + 5};
 }
@@ -64,7 +64,7 @@ tacho_written ref_sub_message(const uint8_t *data, size_t n, uint8_t trep, uint1
     tacho_counted c = ref_sub_messages(n);
     if (c.number) return (tacho_written){c.number, 0};
     if (k < 1 || k > c.count) return (tacho_written){10, 0};
-    uint8_t head[4] = {0x76, trep, (uint8_t)(k >> 8), (uint8_t)k};
+    uint8_t head[4] = {0x76, trep, REF_TWO_BYTES(k)};
     if (n <= 252) return frame_of(head, 2, data, n, true, out, out_len);
     size_t at = (size_t)(k - 1) * 251;
     size_t len = n - at < 251 ? n - at : 251;

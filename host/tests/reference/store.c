@@ -43,41 +43,73 @@ static void put16(uint8_t *b, uint32_t n)
     b[1] = (uint8_t)n;
 }
 
+/* The fields of a store that is long enough for them. */
+
+static size_t count_of(const uint8_t *s)
+{
+    return ref_be16(s + REF_STORE_AT_COUNT);
+}
+
+static size_t stream_len_of(const uint8_t *s)
+{
+    return ref_be16(s + REF_STORE_AT_STREAM_LEN);
+}
+
+static size_t stream_at(size_t count)
+{
+    return REF_STORE_HEADER + REF_STORE_ENTRY * count;
+}
+
 static const uint8_t *entry(const uint8_t *s, size_t i)
 {
-    return s + 4 + 8 * i;
+    return s + stream_at(i);
+}
+
+static uint32_t day_of(const uint8_t *s, size_t i)
+{
+    return ref_be32(entry(s, i) + REF_ENTRY_AT_DAY);
+}
+
+static size_t offset_of(const uint8_t *s, size_t i)
+{
+    return ref_be16(entry(s, i) + REF_ENTRY_AT_OFFSET);
+}
+
+static size_t len_of(const uint8_t *s, size_t i)
+{
+    return ref_be16(entry(s, i) + REF_ENTRY_AT_LEN);
 }
 
 static const uint8_t *answer(const uint8_t *s, size_t i)
 {
-    return entry(s, ref_be16(s)) + ref_be16(entry(s, i) + 4);
+    return s + stream_at(count_of(s)) + offset_of(s, i);
 }
 
 uint8_t ref_store_check(const uint8_t *s, size_t len)
 {
-    if (len < 4) return 5;
-    size_t n = ref_be16(s), t = ref_be16(s + 2), at = 0;
-    if (len < 4 + 8 * n + t || n > 64 || t > 60000) return 5;
+    if (len < REF_STORE_HEADER) return 5;
+    size_t n = count_of(s), t = stream_len_of(s), at = 0;
+    if (len < stream_at(n) + t || n > 64 || t > 60000) return 5;
     for (size_t i = 0; i < n; i++) {
-        size_t l = ref_be16(entry(s, i) + 6);
-        if (ref_be16(entry(s, i) + 4) != at || l < 2 || at + l > t) return 5;
+        size_t l = len_of(s, i);
+        if (offset_of(s, i) != at || l < 2 || at + l > t) return 5;
         at += l;
     }
     if (at != t) return 5;
     for (size_t i = 0; i < n; i++)
-        if (answer(s, i)[0] != 0x76 || !ref_named(answer(s, i)[1], ref_be32(entry(s, i)))) return 5;
+        if (answer(s, i)[0] != 0x76 || !ref_named(answer(s, i)[1], day_of(s, i))) return 5;
     for (size_t i = 0; i < n; i++)
         for (size_t j = 0; j < i; j++)
-            if (answer(s, i)[1] == answer(s, j)[1] && memcmp(entry(s, i), entry(s, j), 4) == 0) return 5;
+            if (answer(s, i)[1] == answer(s, j)[1] && day_of(s, i) == day_of(s, j)) return 5;
     return 0;
 }
 
 tacho_part ref_store_find(const uint8_t *s, uint8_t trep, uint32_t day)
 {
-    size_t n = ref_be16(s);
+    size_t n = count_of(s);
     for (size_t i = 0; i < n; i++)
-        if (answer(s, i)[1] == trep && ref_be32(entry(s, i)) == day)
-            return (tacho_part){0, (size_t)(answer(s, i) - s), ref_be16(entry(s, i) + 6)};
+        if (answer(s, i)[1] == trep && day_of(s, i) == day)
+            return (tacho_part){0, (size_t)(answer(s, i) - s), len_of(s, i)};
     return (tacho_part){6, 0, 0};
 }
 
@@ -90,22 +122,22 @@ tacho_part ref_store_lookup(const uint8_t *s, size_t len, uint8_t trep, uint32_t
 tacho_part ref_store_stream(const uint8_t *s, size_t len)
 {
     if (ref_store_check(s, len)) return (tacho_part){5, 0, 0};
-    return (tacho_part){0, 4 + 8 * (size_t)ref_be16(s), ref_be16(s + 2)};
+    return (tacho_part){0, stream_at(count_of(s)), stream_len_of(s)};
 }
 
 tacho_counted ref_store_count(const uint8_t *s, size_t len)
 {
     uint8_t number = ref_store_check(s, len);
-    return (tacho_counted){number, number ? 0 : ref_be16(s)};
+    return (tacho_counted){number, number ? 0 : count_of(s)};
 }
 
 tacho_held ref_store_answer(const uint8_t *s, size_t len, size_t k)
 {
     uint8_t number = ref_store_check(s, len);
     if (number) return (tacho_held){.number = number};
-    if (k >= ref_be16(s)) return (tacho_held){.number = 6};
+    if (k >= count_of(s)) return (tacho_held){.number = 6};
     const uint8_t *a = answer(s, k);
-    return (tacho_held){0, a[1], ref_be32(entry(s, k)), (size_t)(a - s), ref_be16(entry(s, k) + 6)};
+    return (tacho_held){0, a[1], day_of(s, k), (size_t)(a - s), len_of(s, k)};
 }
 
 tacho_written ref_store_append(uint8_t *s, size_t len, const uint8_t *a, size_t a_len, uint32_t day)
@@ -113,19 +145,19 @@ tacho_written ref_store_append(uint8_t *s, size_t len, const uint8_t *a, size_t 
     if (ref_store_check(s, len)) return (tacho_written){5, 0};
     if (a_len < 2 || a[0] != 0x76 || !ref_named(a[1], day)) return (tacho_written){12, 0};
     if (ref_store_find(s, a[1], day).number == 0) return (tacho_written){7, 0};
-    size_t n = ref_be16(s), t = ref_be16(s + 2);
+    size_t n = count_of(s), t = stream_len_of(s);
     if (n + 1 > 64 || a_len > 60000 || t + a_len > 60000) return (tacho_written){8, 0};
-    size_t whole = 4 + 8 * (n + 1) + t + a_len;
+    size_t whole = stream_at(n + 1) + t + a_len;
     if (len < whole) return (tacho_written){4, 0};
-    uint8_t *e = s + 4 + 8 * n;
-    memmove(e + 8, e, t);
-    memcpy(e + 8 + t, a, a_len);
-    put16(e, day >> 16);
-    put16(e + 2, day);
-    put16(e + 4, (uint32_t)t);
-    put16(e + 6, (uint32_t)a_len);
-    put16(s, (uint32_t)n + 1);
-    put16(s + 2, (uint32_t)(t + a_len));
+    uint8_t *e = s + stream_at(n), *stream = e + REF_STORE_ENTRY;
+    memmove(stream, e, t);
+    memcpy(stream + t, a, a_len);
+    put16(e + REF_ENTRY_AT_DAY, day >> 16);
+    put16(e + REF_ENTRY_AT_DAY + 2, day);
+    put16(e + REF_ENTRY_AT_OFFSET, (uint32_t)t);
+    put16(e + REF_ENTRY_AT_LEN, (uint32_t)a_len);
+    put16(s + REF_STORE_AT_COUNT, (uint32_t)n + 1);
+    put16(s + REF_STORE_AT_STREAM_LEN, (uint32_t)(t + a_len));
     return (tacho_written){0, whole};
 }
 

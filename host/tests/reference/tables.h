@@ -11,4 +11,12 @@ uint32_t ref_be16(const uint8_t *b);
 uint32_t ref_be32(const uint8_t *b);
 tacho_part ref_store_find(const uint8_t *store, uint8_t trep, uint32_t day); /* in a checked store */
 
+/* A reader of one field of a packed state, by the file's own `unpack` into its struct. */
+#define REF_READER(name, unpacked, field)                         \
+    size_t name(const uint8_t *state, size_t len)                 \
+    {                                                             \
+        unpacked u;                                               \
+        return unpack(state, len, &u) ? u.field : TACHO_NO_STATE; \
+    }
+
 #endif

@@ -20,16 +20,27 @@ uint8_t ref_tool_fresh(uint8_t *state, size_t len)
 
 static bool unpack(const uint8_t *s, size_t len, tool *t)
 {
-    if (len != TACHO_TOOL_STATE || s[0] > 5 || s[1] > 5) return false;
-    *t = (tool){s[0], s[1], s[2], s[3], ref_be32(s + 4), s[8], ref_be16(s + 9), ref_be32(s + 11)};
+    if (len != TACHO_TOOL_STATE || s[TACHO_TOOL_AT_REQUEST] > TACHO_REQUEST_TRANSFER
+        || s[TACHO_TOOL_AT_OUTCOME] > TACHO_OUTCOME_REFUSED)
+        return false;
+    *t = (tool){s[TACHO_TOOL_AT_REQUEST], s[TACHO_TOOL_AT_OUTCOME], s[TACHO_TOOL_AT_CODE], s[TACHO_TOOL_AT_TREP],
+                ref_be32(s + TACHO_TOOL_AT_DAY), s[TACHO_TOOL_AT_SENDINGS], ref_be16(s + TACHO_TOOL_AT_EXPECTED),
+                ref_be32(s + TACHO_TOOL_AT_HELD)};
     return t->outcome == TACHO_OUTCOME_REFUSED || t->code == 0;
 }
 
 static void pack(const tool *t, uint8_t *s)
 {
-    uint8_t b[TACHO_TOOL_STATE] = {t->request, t->outcome, t->code, t->trep, (uint8_t)(t->day >> 24), (uint8_t)(t->day >> 16),
-                                   (uint8_t)(t->day >> 8), (uint8_t)t->day, t->sendings, (uint8_t)(t->expected >> 8), (uint8_t)t->expected,
-                                   (uint8_t)(t->held >> 24), (uint8_t)(t->held >> 16), (uint8_t)(t->held >> 8), (uint8_t)t->held};
+    uint8_t b[TACHO_TOOL_STATE] = {
+        [TACHO_TOOL_AT_REQUEST] = t->request,
+        [TACHO_TOOL_AT_OUTCOME] = t->outcome,
+        [TACHO_TOOL_AT_CODE] = t->code,
+        [TACHO_TOOL_AT_TREP] = t->trep,
+        [TACHO_TOOL_AT_DAY] = REF_FOUR_BYTES(t->day),
+        [TACHO_TOOL_AT_SENDINGS] = t->sendings,
+        [TACHO_TOOL_AT_EXPECTED] = REF_TWO_BYTES(t->expected),
+        [TACHO_TOOL_AT_HELD] = REF_FOUR_BYTES(t->held),
+    };
     memcpy(s, b, sizeof b);
 }
 
@@ -47,8 +58,8 @@ static size_t send_frame(const tool *t, uint8_t *out)
 {
     static const uint8_t start[5] = {0x81, 0xEE, 0xF0, 0x81, 0xE0};
     static const uint8_t upload[10] = {0x35, 0, 0, 0, 0, 0, 0xFF, 0xFF, 0xFF, 0xFF};
-    uint8_t d[6] = {0x36, t->trep, (uint8_t)(t->day >> 24), (uint8_t)(t->day >> 16), (uint8_t)(t->day >> 8), (uint8_t)t->day};
-    uint8_t ack[4] = {0x83, 0x76, (uint8_t)(t->expected >> 8), (uint8_t)t->expected};
+    uint8_t d[6] = {0x36, t->trep, REF_FOUR_BYTES(t->day)};
+    uint8_t ack[4] = {0x83, 0x76, REF_TWO_BYTES(t->expected)};
     switch (t->request) {
     case TACHO_REQUEST_START: memcpy(out, start, 5); return 5;
     case TACHO_REQUEST_SESSION: return ref_frame_write((const uint8_t[]){0x10, 0x81}, 2, false, out, 260).len;
@@ -64,7 +75,9 @@ static size_t send_frame(const tool *t, uint8_t *out)
 tacho_written ref_tool_begin(uint8_t *state, size_t state_len, uint8_t request, uint8_t trep, uint32_t day, uint8_t *out, size_t out_len)
 {
     tool t;
-    if (request > 5 || (request == 5 ? !ref_named(trep, day) : trep != 0 || day != 0)) return (tacho_written){12, 0};
+    bool transfer = request == TACHO_REQUEST_TRANSFER;
+    if (request > TACHO_REQUEST_TRANSFER || (transfer ? !ref_named(trep, day) : trep != 0 || day != 0))
+        return (tacho_written){12, 0};
     if (!unpack(state, state_len, &t) || t.outcome == TACHO_OUTCOME_WAITING) return (tacho_written){11, 0};
     if (out_len < 260) return (tacho_written){4, 0};
     t = (tool){request, TACHO_OUTCOME_WAITING, 0, trep, day, 1, 1, 0};
@@ -157,26 +170,7 @@ tacho_written ref_tool_wait_ended(uint8_t *state, size_t state_len, const uint8_
     return (tacho_written){0, len};
 }
 
-size_t ref_tool_outcome(const uint8_t *state, size_t len)
-{
-    tool t;
-    return unpack(state, len, &t) ? t.outcome : TACHO_NO_STATE;
-}
-
-size_t ref_tool_code(const uint8_t *state, size_t len)
-{
-    tool t;
-    return unpack(state, len, &t) ? t.code : TACHO_NO_STATE;
-}
-
-size_t ref_tool_expected(const uint8_t *state, size_t len)
-{
-    tool t;
-    return unpack(state, len, &t) ? t.expected : TACHO_NO_STATE;
-}
-
-size_t ref_tool_held(const uint8_t *state, size_t len)
-{
-    tool t;
-    return unpack(state, len, &t) ? t.held : TACHO_NO_STATE;
-}
+REF_READER(ref_tool_outcome, tool, outcome)
+REF_READER(ref_tool_code, tool, code)
+REF_READER(ref_tool_expected, tool, expected)
+REF_READER(ref_tool_held, tool, held)

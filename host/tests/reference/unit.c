@@ -15,15 +15,16 @@ uint8_t ref_unit_fresh(uint8_t kind, uint8_t *state, size_t len)
     if (kind > 2) return 11;
     if (len < TACHO_UNIT_STATE) return 4;
     memset(state, 0, TACHO_UNIT_STATE);
-    state[0] = kind;
-    state[1] = 1;
+    state[TACHO_UNIT_AT_KIND] = kind;
+    state[TACHO_UNIT_AT_RATE] = 1;
     return 0;
 }
 
 static bool unpack(const uint8_t *s, size_t len, unit *u)
 {
-    if (len != TACHO_UNIT_STATE || s[3] > 4) return false;
-    *u = (unit){s[0], s[1], s[2], s[3], s[4], ref_be32(s + 5), ref_be16(s + 9)};
+    if (len != TACHO_UNIT_STATE || s[TACHO_UNIT_AT_PHASE] > TACHO_PHASE_SENDING) return false;
+    *u = (unit){s[TACHO_UNIT_AT_KIND], s[TACHO_UNIT_AT_RATE], s[TACHO_UNIT_AT_PENDING], s[TACHO_UNIT_AT_PHASE],
+                s[TACHO_UNIT_AT_TREP], ref_be32(s + TACHO_UNIT_AT_DAY), ref_be16(s + TACHO_UNIT_AT_LAST)};
     return u->phase == TACHO_PHASE_SENDING || (u->trep == 0 && u->day == 0 && u->last == 0);
 }
 
@@ -31,8 +32,15 @@ static void pack(const unit *u, uint8_t *s)
 {
     bool sending = u->phase == TACHO_PHASE_SENDING;
     uint32_t day = sending ? u->day : 0, last = sending ? u->last : 0;
-    uint8_t b[TACHO_UNIT_STATE] = {u->kind, u->rate, u->pending, u->phase, sending ? u->trep : 0, (uint8_t)(day >> 24), (uint8_t)(day >> 16),
-                                   (uint8_t)(day >> 8), (uint8_t)day, (uint8_t)(last >> 8), (uint8_t)last};
+    uint8_t b[TACHO_UNIT_STATE] = {
+        [TACHO_UNIT_AT_KIND] = u->kind,
+        [TACHO_UNIT_AT_RATE] = u->rate,
+        [TACHO_UNIT_AT_PENDING] = u->pending,
+        [TACHO_UNIT_AT_PHASE] = u->phase,
+        [TACHO_UNIT_AT_TREP] = sending ? u->trep : 0,
+        [TACHO_UNIT_AT_DAY] = REF_FOUR_BYTES(day),
+        [TACHO_UNIT_AT_LAST] = REF_TWO_BYTES(last),
+    };
     memcpy(s, b, sizeof b);
 }
 
@@ -177,20 +185,6 @@ tacho_written ref_unit_step(uint8_t *state, size_t state_len, const uint8_t *sto
     return (tacho_written){0, len};
 }
 
-size_t ref_unit_kind(const uint8_t *state, size_t len)
-{
-    unit u;
-    return unpack(state, len, &u) ? u.kind : TACHO_NO_STATE;
-}
-
-size_t ref_unit_rate(const uint8_t *state, size_t len)
-{
-    unit u;
-    return unpack(state, len, &u) ? u.rate : TACHO_NO_STATE;
-}
-
-size_t ref_unit_phase(const uint8_t *state, size_t len)
-{
-    unit u;
-    return unpack(state, len, &u) ? u.phase : TACHO_NO_STATE;
-}
+REF_READER(ref_unit_kind, unit, kind)
+REF_READER(ref_unit_rate, unit, rate)
+REF_READER(ref_unit_phase, unit, phase)
