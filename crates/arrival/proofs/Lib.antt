@@ -1,4 +1,3 @@
--- Laws of the tool's state and of what arrives, for this crate's proofs and for the crates above it.
-pub mod StateLaws
+-- Laws of what arrives, for this crate's proofs and for the crates above it.
 pub mod RoomLaws
 pub mod MeaningLaws

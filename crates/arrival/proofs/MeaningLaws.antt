@@ -13,12 +13,12 @@ use Rattle.frame.specs.declared.End.the-variants as ends
 use Rattle.frame.specs.Frame.{judged, dataPlace, dataOf}
 use Rattle.split.specs.Join.{receivedAs}
 use Rattle.split.specs.declared.Received.{Received}
-use Rattle.arrival.specs.declared.Request.{Request}
-use Rattle.arrival.specs.declared.ToolState.{ToolState}
+use Rattle.progress.specs.declared.Request.{Request}
+use Rattle.progress.specs.declared.ToolState.{ToolState}
 use Rattle.arrival.specs.declared.Arrival.{Arrival}
 use Rattle.arrival.specs.declared.Meaning.{Meaning}
 use Rattle.arrival.specs.declared.Meaning.the-variants.{Ignored, FailedWait, Confirmed}
-use Rattle.arrival.specs.State.{isTransfer}
+use Rattle.progress.specs.State.{isTransfer}
 use Rattle.arrival.specs.Replies.{sidSent, replyWanted}
 use Rattle.arrival.specs.Meaning.{newBytes, fits, meaningOf, receivedBy, transferMeaning, isRefusal, refusalMeaning, dataMeaning, arrivalMeaning}
 use Rattle.arrival.specs.Meaning.{arrivalBytes, arrivalOf}

@@ -10,8 +10,8 @@ use borrow.Author.Tests.{le-leb, lt-leb, eq-eqb, ne-eqb, leb-true}
 use Rattle.octets.proofs.Tests.{and-left, and-right}
 use Rattle.split.specs.Join.{carriedBy}
 use Rattle.split.specs.declared.Received.{Received}
-use Rattle.arrival.specs.declared.ToolState.{ToolState}
-use Rattle.arrival.specs.State.{heldMost}
+use Rattle.progress.specs.declared.ToolState.{ToolState}
+use Rattle.progress.specs.State.{heldMost}
 use Rattle.arrival.specs.Meaning.{header, newBytes, fits}
 
 -- What a frame's data adds; n is the length of the header before what it carries, p

@@ -1,4 +1,3 @@
--- Document 01, The tool: its state, and what a string that arrives means to it.
-pub mod State
+-- Document 01, The tool: what a string that arrives means to it.
 pub mod Replies
 pub mod Meaning

@@ -12,13 +12,13 @@ use Rattle.frame.specs.Frame.{judged, dataPlace, dataOf}
 use Rattle.split.specs.Join.{receivedAs, carriedBy}
 use Rattle.split.specs.declared.Received.{Received}
 use Rattle.split.specs.declared.Received.the-variants.{Whole, Full, Last, Above, Other}
-use Rattle.arrival.specs.declared.ToolState.{ToolState}
+use Rattle.progress.specs.declared.ToolState.{ToolState}
 use Rattle.arrival.specs.declared.Meaning.{Meaning}
 use Rattle.arrival.specs.declared.Arrival.{Arrival}
 use Rattle.arrival.specs.declared.Meaning.the-variants.{Ignored, FailedWait, Confirmed, WholeAnswer}
 use Rattle.arrival.specs.declared.Meaning.the-variants.{SubMessageTaken, LastTaken, NoRoomForAnswer}
 use Rattle.arrival.specs.declared.Meaning.the-variants.{NoRoomForSubMessage, RefusedBy}
-use Rattle.arrival.specs.State.{heldMost, isTransfer}
+use Rattle.progress.specs.State.{heldMost, isTransfer}
 use Rattle.arrival.specs.Replies.{sidSent, replyWanted}
 
 -- "Held bytes are 76, TREP, data": 76 and TREP come before the data of the first frame alone

@@ -4,8 +4,8 @@ use mathlib.Core.Bool.{cond}
 use mathlib.Core.List.{List, []}
 use lib.Dec.{eqb}
 use Rattle.frame.specs.Messages.{startReply, sessionReply, uploadReply, exitReply, stopReply}
-use Rattle.arrival.specs.declared.Request.{Request}
-use Rattle.arrival.specs.declared.Request.the-variants as requests
+use Rattle.progress.specs.declared.Request.{Request}
+use Rattle.progress.specs.declared.Request.the-variants as requests
 
 -- "the SID last sent (36 or 83)"
 unfoldable pub sidSent : Request → ℕ → ℕ

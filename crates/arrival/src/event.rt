@@ -1,10 +1,10 @@
 // What a string that arrives means to a waiting tool.
 use crate::Arrival;
 use crate::Meaning;
-use crate::ToolState;
 use frame::End;
 use octets::wire::NEGATIVE;
 use octets::wire::RESPONSE_PENDING;
+use progress::ToolState;
 use split::Received;
 ghost use mathlib.Core.Path.{_≡_};
 ghost use mathlib.Core.Bool.{cond};
@@ -73,7 +73,7 @@ fn data_meaning(
     if is_refusal(state, data) {
         return refusal_meaning(octets::big_endian::byte_at(data, 2));
     }
-    if crate::state::is_transfer(request) {
+    if progress::state::is_transfer(request) {
         return meaning_of(received, crate::room::fits_in(state, new, room_len));
     }
     if crate::reply::is_reply(request, data) {

@@ -1,45 +1,10 @@
-// The download tool's state, and what a string that arrives means to it (document 01, The tool).
-use catalog::AnswerName;
+// What a string that arrives means to the download tool (document 01, The tool).
 use octets::Place;
 use split::Received;
-use split::SubMessage;
 
 pub mod event;
 mod reply;
 pub mod room;
-pub mod state;
-
-// "One request at a time: start, session, upload, exit, stop or a transfer."
-pub enum Request {
-    Start,
-    Session,
-    Upload,
-    Exit,
-    Stop,
-    Transfer,
-}
-
-// How the last request stands; Fresh: nothing was begun.
-pub enum Outcome {
-    Fresh,
-    Waiting,
-    Done,
-    NoAnswer,
-    NoRoom,
-    // ended by this wire code
-    Refused(u8),
-}
-
-// The request with its TREP and day, how it stands, the sendings of its last frame, the sub message expected and the
-// bytes held.
-pub struct ToolState {
-    pub request: Request,
-    pub outcome: Outcome,
-    pub name: AnswerName,
-    pub sendings: u8,
-    pub expected: SubMessage,
-    pub held: u32,
-}
 
 // What an event means to a waiting tool.
 pub enum Meaning {

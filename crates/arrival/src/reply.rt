@@ -1,5 +1,4 @@
 // The SID that a refusal names, and the replies that the tool waits for.
-use crate::Request;
 use frame::messages::EXITED;
 use frame::messages::SESSION_OPENED;
 use frame::messages::STARTED;
@@ -12,6 +11,7 @@ use octets::wire::START_COMMUNICATION;
 use octets::wire::STOP_COMMUNICATION;
 use octets::wire::TRANSFER_DATA;
 use octets::wire::TRANSFER_EXIT;
+use progress::Request;
 use split::SubMessage;
 ghost use mathlib.Core.Path.{_≡_};
 ghost use Prim.Native.Nat.{_-_};

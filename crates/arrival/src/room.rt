@@ -1,6 +1,6 @@
 // What a frame's data adds to the bytes held in the room, and whether it fits.
-use crate::ToolState;
-use crate::state::HELD_MOST;
+use progress::ToolState;
+use progress::state::HELD_MOST;
 use split::Received;
 ghost use mathlib.Core.Path.{_≡_};
 ghost use Prim.Native.Nat.{_≤_};

@@ -13,8 +13,8 @@ use Rattle.frame.specs.declared.Addresses.{Addresses}
 use Rattle.catalog.specs.declared.AnswerName.{AnswerName}
 use Rattle.services.specs.declared.UnitState.{UnitState}
 use Rattle.unit.specs.Call.{unitReply, unitResult, unitOut}
-use Rattle.arrival.specs.declared.Request.{Request}
-use Rattle.arrival.specs.declared.ToolState.{ToolState}
+use Rattle.progress.specs.declared.Request.{Request}
+use Rattle.progress.specs.declared.ToolState.{ToolState}
 use Rattle.arrival.specs.declared.Meaning.the-variants.{FailedWait}
 use Rattle.arrival.specs.Meaning.{arrivalMeaning}
 use Rattle.tool.specs.Call.{beginNumber, beginState, beginSent, beginResult, beginOut, eventSent, eventResult, eventOut, arrivalResult, arrivalOut, waitResult}

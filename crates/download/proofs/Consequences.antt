@@ -14,8 +14,8 @@ use Rattle.services.specs.declared.Phase.{Phase}
 use Rattle.services.specs.declared.Phase.the-variants.{Closed, Started, Session, Granted, Sending}
 use Rattle.services.specs.State.{phasePossible}
 use Rattle.unit.specs.State.{placeSent}
-use Rattle.arrival.specs.declared.Outcome.{Outcome}
-use Rattle.arrival.specs.declared.Outcome.the-variants.{NoRoom, Refused}
+use Rattle.progress.specs.declared.Outcome.{Outcome}
+use Rattle.progress.specs.declared.Outcome.the-variants.{NoRoom, Refused}
 use Rattle.line.specs.Line.{toolEnd, Event}
 use Rattle.line.specs.Book as books
 use Rattle.line.specs.Book.{Run, run, start}

@@ -23,7 +23,7 @@ use Rattle.split.specs.Codes.{sub, acknowledgeOf}
 use Rattle.split.specs.Split.{countOf, carries}
 use Rattle.split.proofs.SplitLaws.{carries-split}
 use Rattle.split.proofs.Theorems.{sub-good, sub-reads-back, count-one, count-split, count-some, count-most, number-reads-back}
-use Rattle.arrival.specs.declared.Request.the-variants as requests
+use Rattle.progress.specs.declared.Request.the-variants as requests
 use Rattle.requests.specs.Sent.{transferRequest, acknowledgement, transferData, frameSent}
 use Rattle.line.specs.Line.{toolEnd}
 use Rattle.line.proofs.Cases.{byTest, never}

@@ -12,14 +12,14 @@ use Rattle.catalog.specs.declared.AnswerName.{AnswerName}
 use Rattle.split.specs.Codes.{sub}
 use Rattle.split.specs.Split.{countOf, subFrame}
 use Rattle.unit.specs.State.{possible}
-use Rattle.arrival.specs.State.{freshTool}
+use Rattle.progress.specs.State.{freshTool}
 use Rattle.octets.specs.Buffer.{sameBytes}
 use Rattle.services.specs.declared.UnitState.{UnitState}
 use Rattle.services.specs.declared.Phase.{Phase}
 use Rattle.services.specs.declared.Phase.the-variants.{Session, Granted, Sending}
-use Rattle.arrival.specs.declared.Request.the-variants.{Transfer}
-use Rattle.arrival.specs.declared.Outcome.{Outcome}
-use Rattle.arrival.specs.declared.Outcome.the-variants.{Fresh, Waiting, Done, NoAnswer, NoRoom, Refused}
+use Rattle.progress.specs.declared.Request.the-variants.{Transfer}
+use Rattle.progress.specs.declared.Outcome.{Outcome}
+use Rattle.progress.specs.declared.Outcome.the-variants.{Fresh, Waiting, Done, NoAnswer, NoRoom, Refused}
 use Rattle.line.specs.Line.{toolEnd, spoiled, Event, arrivesAtUnit, arrivesAtTool, waitEnds, lineChanges}
 use Rattle.line.specs.Book as books
 use Rattle.line.specs.Book.{Run, run, start}

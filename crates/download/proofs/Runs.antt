@@ -16,7 +16,7 @@ use Rattle.services.specs.Services.{requestName, answerFrom, onTransfer, onCode
 use Rattle.services.specs.Services.{onData}
 use Rattle.services.specs.After.{stateAfter as unitAfter}
 use Rattle.unit.specs.Call.{reactionAt, reactionTo, replyData, replyTo, numberBefore, unitNumber, unitState, unitReply, unitResult}
-use Rattle.arrival.specs.State.{heldRight, transferPossible, possible as toolPossible}
+use Rattle.progress.specs.State.{heldRight, transferPossible, possible as toolPossible}
 use Rattle.requests.specs.Sent.{transferRequest, acknowledgement, transferData, frameSent}
 use Rattle.arrival.specs.Replies.{sidSent}
 use Rattle.arrival.specs.Meaning.{header, fits, meaningOf, transferMeaning, isRefusal, refusalMeaning, dataMeaning, arrivalMeaning, arrivalBytes}

@@ -11,9 +11,9 @@ use Rattle.octets.proofs.BufferLaws.{take-front}
 use Rattle.frame.specs.declared.Addresses.{Addresses}
 use Rattle.frame.specs.Frame.{lab}
 use Rattle.split.specs.Split.{countOf}
-use Rattle.arrival.specs.declared.Request.the-variants as requests
-use Rattle.arrival.specs.declared.Outcome.{Outcome}
-use Rattle.arrival.specs.declared.Outcome.the-variants.{Waiting, Done, NoAnswer}
+use Rattle.progress.specs.declared.Request.the-variants as requests
+use Rattle.progress.specs.declared.Outcome.{Outcome}
+use Rattle.progress.specs.declared.Outcome.the-variants.{Waiting, Done, NoAnswer}
 use Rattle.requests.specs.Sent.{frameSent}
 use Rattle.tool.specs.Call.{beginState, beginSent, beginResult}
 use Rattle.line.specs.Line.{silent, sends, Event}

@@ -24,13 +24,13 @@ use Rattle.split.specs.declared.Received.the-variants.{Whole, Full, Last, Other
 use Rattle.split.proofs.SplitLaws.{carries-split, field-split}
 use Rattle.split.proofs.JoinLaws.{whole-answer, other-below, last, full}
 use Rattle.split.proofs.Theorems.{sub-good, sub-reads-back, answers-back, count-one, count-split, length-one, length-full, length-last, number-reads-back}
-use Rattle.arrival.specs.declared.Request.the-variants as requests
-use Rattle.arrival.specs.declared.Outcome.{Outcome}
-use Rattle.arrival.specs.declared.Outcome.the-variants.{Waiting, Done, NoAnswer}
-use Rattle.arrival.specs.declared.ToolState.{ToolState}
+use Rattle.progress.specs.declared.Request.the-variants as requests
+use Rattle.progress.specs.declared.Outcome.{Outcome}
+use Rattle.progress.specs.declared.Outcome.the-variants.{Waiting, Done, NoAnswer}
+use Rattle.progress.specs.declared.ToolState.{ToolState}
 use Rattle.arrival.specs.declared.Meaning.{Meaning}
 use Rattle.arrival.specs.declared.Meaning.the-variants.{FailedWait, WholeAnswer, SubMessageTaken, LastTaken}
-use Rattle.arrival.specs.State.{heldRight, transferPossible, possible}
+use Rattle.progress.specs.State.{heldRight, transferPossible, possible}
 use Rattle.requests.specs.Sent.{frameSent}
 use Rattle.arrival.specs.Meaning.{header, newBytes, fits, meaningOf, transferMeaning, isRefusal, dataMeaning, arrivalMeaning, arrivalBytes}
 use Rattle.tool.specs.After.{takes as takesBytes, afterFailedWait, stateAfter, sentAfter, roomAfter}

@@ -30,7 +30,7 @@ use Rattle.unit.specs.State.{possible}
 use Rattle.services.specs.Services.{onSession, onUpload, answerFrom}
 use Rattle.services.specs.Services.{onData}
 use Rattle.unit.specs.Call.{reactionTo, replyData, replyTo, unitReply}
-use Rattle.arrival.specs.declared.Request.the-variants as requests
+use Rattle.progress.specs.declared.Request.the-variants as requests
 use Rattle.requests.specs.Sent.{transferRequest, acknowledgement, transferData, frameSent}
 use Rattle.download.specs.TradeCases.{Called, Asked, lens, store12, TradeCases}
 use Rattle.download.proofs.Runs.{lookups, calls}

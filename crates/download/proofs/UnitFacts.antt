@@ -31,7 +31,7 @@ use Rattle.services.specs.Services.{answerFrom, onAcknowledge}
 use Rattle.services.specs.Services.{onData}
 use Rattle.services.specs.After.{withPhase, stateAfter}
 use Rattle.unit.specs.Call.{placeAsked, reactionTo, replyData, replyTo, numberBefore, unitNumber, unitState, unitReply, unitResult}
-use Rattle.arrival.specs.declared.Request.the-variants as requests
+use Rattle.progress.specs.declared.Request.the-variants as requests
 use Rattle.requests.specs.Sent.{acknowledgement, transferData, frameSent}
 use Rattle.tool.specs.Call.{requestNumber, beginNumber}
 use Rattle.line.specs.Line.{Result, silent, sends, unitEnd}

@@ -18,9 +18,9 @@ use Rattle.services.specs.declared.Phase.{Phase}
 use Rattle.services.specs.declared.Phase.the-variants.{Granted, Sending}
 use Rattle.services.specs.State.{sendable, phasePossible, possibleAt}
 use Rattle.unit.specs.State.{possible}
-use Rattle.arrival.specs.declared.Request.the-variants.{Transfer}
-use Rattle.arrival.specs.declared.Outcome.the-variants.{Done, NoAnswer}
-use Rattle.arrival.specs.State.{freshTool}
+use Rattle.progress.specs.declared.Request.the-variants.{Transfer}
+use Rattle.progress.specs.declared.Outcome.the-variants.{Done, NoAnswer}
+use Rattle.progress.specs.State.{freshTool}
 use Rattle.tool.specs.Call.{requestNumber, beginNumber}
 use Rattle.line.specs.Line.{unitEnd, toolEnd, lost, repeated, spoiled, Event, arrivesAtUnit, arrivesAtTool, waitEnds, lineChanges, beginRefused}
 use Rattle.line.specs.Book.{Run, run, start, done}

@@ -23,10 +23,10 @@ use Rattle.services.specs.declared.Phase.{Phase}
 use Rattle.services.specs.declared.Phase.the-variants.{Closed, Started, Session, Granted, Sending}
 use Rattle.services.specs.State.{isGranted}
 use Rattle.unit.specs.State as unitStates
-use Rattle.arrival.specs.declared.Request.the-variants as requests
-use Rattle.arrival.specs.declared.Outcome.{Outcome}
-use Rattle.arrival.specs.declared.Outcome.the-variants.{Fresh, Waiting, Done, NoAnswer}
-use Rattle.arrival.specs.declared.ToolState.{ToolState}
+use Rattle.progress.specs.declared.Request.the-variants as requests
+use Rattle.progress.specs.declared.Outcome.{Outcome}
+use Rattle.progress.specs.declared.Outcome.the-variants.{Fresh, Waiting, Done, NoAnswer}
+use Rattle.progress.specs.declared.ToolState.{ToolState}
 use Rattle.tool.specs.Call.{beginNumber}
 use Rattle.line.specs.Line.{Event}
 use Rattle.line.specs.Book as books

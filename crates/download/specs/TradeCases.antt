@@ -22,7 +22,7 @@ use Rattle.services.specs.declared.Phase.the-variants.{Started, Session, Grante
 use Rattle.services.specs.State.{isGranted}
 use Rattle.unit.specs.State as unitStates
 use Rattle.unit.specs.Call.{unitReply}
-use Rattle.arrival.specs.declared.Request.the-variants as requests
+use Rattle.progress.specs.declared.Request.the-variants as requests
 use Rattle.requests.specs.Sent.{transferRequest, acknowledgement, frameSent}
 
 -- a unit's call that neither 5 nor 11 nor 4 refuses

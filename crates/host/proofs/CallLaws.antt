@@ -22,11 +22,11 @@ use Rattle.unit.specs.declared.UnitReply.{UnitReply}
 use Rattle.services.specs.State.{freshUnit, possibleAt}
 use Rattle.unit.specs.State as unit-state
 use Rattle.unit.specs.Call.{numberBefore, unitNumber, unitResult, unitOut}
-use Rattle.arrival.specs.declared.Request.{Request}
+use Rattle.progress.specs.declared.Request.{Request}
 use Rattle.arrival.specs.declared.Meaning.{Meaning}
-use Rattle.arrival.specs.declared.ToolState.{ToolState}
+use Rattle.progress.specs.declared.ToolState.{ToolState}
 use Rattle.tool.specs.declared.ToolStep.{ToolStep}
-use Rattle.arrival.specs.State as tool-state
+use Rattle.progress.specs.State as tool-state
 use Rattle.tool.specs.Call.{requestNumber, beginNumber, beginResult, beginOut, eventNumber, eventResult, arrivalResult, arrivalRoom, arrivalOut, waitResult}
 use Rattle.tool.specs.Call.{waitOut}
 use Rattle.states.specs.Packed.{packedUnit, isUnit, noUnit, unpackedUnit, requestFrom, packedTool, isTool, noTool, unpackedTool}

@@ -14,7 +14,7 @@ use Rattle.unit.specs.declared.UnitReply.{UnitReply}
 use Rattle.services.specs.State.{freshUnit}
 use Rattle.unit.specs.Call.{unitResult, unitOut}
 use Rattle.tool.specs.declared.ToolStep.{ToolStep}
-use Rattle.arrival.specs.State.{freshTool}
+use Rattle.progress.specs.State.{freshTool}
 use Rattle.tool.specs.Call.{beginResult, beginOut, arrivalResult, arrivalRoom, arrivalOut, waitResult, waitOut}
 use Rattle.states.specs.Packed.{unitSize, packedUnit, unpackedUnit, toolSize, requestFrom, packedTool, unpackedTool}
 

@@ -18,7 +18,7 @@ pub extern "C" fn tacho_tool_fresh(state: &mut [u8]) -> u8
     if state.len() < states::pack_tool::SIZE {
         return BUFFER_SHORT;
     }
-    octets::buffer::copy_in(state, &states::pack_tool::pack(arrival::state::fresh()));
+    octets::buffer::copy_in(state, &states::pack_tool::pack(progress::state::fresh()));
     0
 }
 

@@ -19,7 +19,10 @@ pub extern "C" fn tacho_unit_fresh(kind: u8, state: &mut [u8]) -> u8
     if state.len() < states::pack_unit::SIZE {
         return BUFFER_SHORT;
     }
-    octets::buffer::copy_in(state, &states::pack_unit::pack(services::state::fresh(kind)));
+    octets::buffer::copy_in(
+        state,
+        &states::pack_unit::pack(services::state::fresh(kind)),
+    );
     0
 }
 

@@ -19,8 +19,8 @@ use Rattle.services.specs.After.{stateAfter}
 use Rattle.unit.specs.Call.{reactionTo, unitNumber, unitState, unitReply, unitResult}
 use Rattle.unit.proofs.BoundLaws as units
 use Rattle.arrival.specs.declared.Meaning.the-variants.{FailedWait}
-use Rattle.arrival.specs.declared.ToolState.{ToolState}
-use Rattle.arrival.specs.State.{isWaiting}
+use Rattle.progress.specs.declared.ToolState.{ToolState}
+use Rattle.progress.specs.State.{isWaiting}
 use Rattle.arrival.specs.Meaning.{arrivalMeaning, arrivalBytes}
 use Rattle.tool.specs.After.{stateAfter as toolAfter}
 use Rattle.tool.specs.Call.{eventNumber, eventState, eventSent, eventRoom, eventResult, eventOut, arrivalRoom}

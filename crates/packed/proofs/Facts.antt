@@ -13,7 +13,7 @@ use Rattle.services.specs.declared.Phase.the-variants.{Granted, Sending}
 use Rattle.services.specs.State.{possibleAt}
 use Rattle.unit.specs.State as unitStates
 use Rattle.unit.proofs.BoundLaws as unitBounds
-use Rattle.arrival.specs.declared.Request.the-variants as requests
+use Rattle.progress.specs.declared.Request.the-variants as requests
 use Rattle.tool.specs.Call.{beginState, beginResult}
 use Rattle.tool.proofs.BoundLaws as toolBounds
 use Rattle.states.specs.Packed.{packedUnit, isUnit, noUnit, unpackedUnit, requestFrom}

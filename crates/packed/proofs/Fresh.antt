@@ -19,9 +19,9 @@ use Rattle.services.specs.Services.{onSession, onUpload}
 use Rattle.services.specs.After.{stateAfter}
 use Rattle.unit.specs.Call.{reactionTo, unitNumber, unitState, unitResult}
 use Rattle.unit.proofs.BoundLaws as units
-use Rattle.arrival.specs.declared.Request.{Request}
-use Rattle.arrival.specs.declared.Request.the-variants as requests
-use Rattle.arrival.specs.State.{noName}
+use Rattle.progress.specs.declared.Request.{Request}
+use Rattle.progress.specs.declared.Request.the-variants as requests
+use Rattle.progress.specs.State.{noName}
 use Rattle.requests.specs.Sent.{frameSent}
 use Rattle.tool.specs.Call.{requestNumber, beginNumber, beginResult}
 use Rattle.states.specs.Packed.{packedUnit, unpackedUnit, requestFrom}

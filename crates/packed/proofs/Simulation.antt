@@ -14,9 +14,9 @@ use Rattle.services.specs.State.{freshUnit}
 use Rattle.services.specs.After.{stateAfter}
 use Rattle.unit.specs.Call.{reactionTo, unitNumber, unitState, unitResult}
 use Rattle.unit.proofs.BoundLaws as units
-use Rattle.arrival.specs.declared.ToolState.{ToolState}
+use Rattle.progress.specs.declared.ToolState.{ToolState}
 use Rattle.arrival.specs.declared.Meaning.{Meaning}
-use Rattle.arrival.specs.State.{freshTool}
+use Rattle.progress.specs.State.{freshTool}
 use Rattle.tool.specs.After.{stateAfter as toolAfter}
 use Rattle.tool.specs.Call.{begun, beginNumber, beginState, beginResult, eventNumber, eventState, eventResult}
 use Rattle.tool.proofs.BoundLaws as tools

@@ -12,9 +12,9 @@ use Rattle.catalog.specs.declared.AnswerName.{AnswerName}
 use Rattle.store.specs.Layout.{narrow}
 use Rattle.store.specs.Check.{storeNumber}
 use Rattle.services.specs.declared.Phase.the-variants.{Granted}
-use Rattle.arrival.specs.declared.Request.{Request}
-use Rattle.arrival.specs.declared.Request.the-variants as requests
-use Rattle.arrival.specs.State.{noName}
+use Rattle.progress.specs.declared.Request.{Request}
+use Rattle.progress.specs.declared.Request.the-variants as requests
+use Rattle.progress.specs.State.{noName}
 use Rattle.requests.specs.Sent.{frameSent}
 use Rattle.host.specs.Calls.{unitFreshState, unitKept, unitStep, toolFreshState, toolBegin}
 use Rattle.packed.specs.Simulation.{UnitIs}

@@ -10,7 +10,7 @@ use lib.Dec.{leb}
 use Rattle.octets.specs.Buffer.{Bytes}
 use Rattle.frame.specs.Frame.{frameMost, lab}
 use Rattle.states.specs.Packed.{packedUnit, unpackedUnit, requestByte, packedTool, unpackedTool}
-use Rattle.arrival.specs.declared.Request.the-variants as requests
+use Rattle.progress.specs.declared.Request.the-variants as requests
 use Rattle.line.specs.Line.{System, Event}
 use Rattle.line.specs.Book as books
 use Rattle.line.specs.Book.{Run, run, start}

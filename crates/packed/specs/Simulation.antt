@@ -13,8 +13,8 @@ use Rattle.catalog.specs.declared.AnswerName.{AnswerName}
 use Rattle.services.specs.declared.UnitState.{UnitState}
 use Rattle.services.specs.State.{freshUnit}
 use Rattle.unit.specs.Call.{unitState}
-use Rattle.arrival.specs.declared.ToolState.{ToolState}
-use Rattle.arrival.specs.State.{freshTool}
+use Rattle.progress.specs.declared.ToolState.{ToolState}
+use Rattle.progress.specs.State.{freshTool}
 use Rattle.tool.specs.Call.{beginResult, arrivalResult, waitResult}
 use Rattle.states.specs.Packed.{packedUnit, isUnit, unpackedUnit, requestFrom, packedTool, isTool, unpackedTool}
 use Rattle.host.specs.Calls.{unitFreshState, unitKept, unitStep}

@@ -20,8 +20,8 @@ use Rattle.catalog.specs.declared.AnswerName.{AnswerName}
 use Rattle.split.specs.Codes.{sub, acknowledgeOf}
 use Rattle.split.specs.declared.SubMessage.{SubMessage}
 use Rattle.split.specs.declared.AckCode.{AckCode}
-use Rattle.arrival.specs.declared.Request.{Request}
-use Rattle.arrival.specs.declared.Request.the-variants as requests
+use Rattle.progress.specs.declared.Request.{Request}
+use Rattle.progress.specs.declared.Request.the-variants as requests
 use Rattle.requests.specs.Sent.{transferRequest, acknowledgement, transferData, frameSent}
 
 -- What was sent under one description, under another: frames of equal data, and equal requests

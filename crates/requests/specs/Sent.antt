@@ -12,8 +12,8 @@ use Rattle.catalog.specs.Table.{isActivities}
 use Rattle.catalog.specs.declared.AnswerName.{AnswerName}
 use Rattle.split.specs.Codes.{sub, acknowledgeOf}
 use Rattle.split.specs.declared.AckCode.{AckCode}
-use Rattle.arrival.specs.declared.Request.{Request}
-use Rattle.arrival.specs.declared.Request.the-variants as requests
+use Rattle.progress.specs.declared.Request.{Request}
+use Rattle.progress.specs.declared.Request.the-variants as requests
 
 -- "36 TRTP (day)": "Activities carry a day, four bytes"
 unfoldable pub transferRequest : AnswerName → List ℕ

@@ -1,5 +1,4 @@
 // The frames that the tool sends.
-use arrival::Request;
 use catalog::AnswerName;
 use frame::End;
 use frame::messages::EXIT;
@@ -10,6 +9,7 @@ use octets::Written;
 use octets::wire::ACKNOWLEDGE;
 use octets::wire::ANSWER;
 use octets::wire::TRANSFER_DATA;
+use progress::Request;
 use split::AckCode;
 use split::SubMessage;
 ghost use mathlib.Core.Path.{_≡_};

@@ -1,10 +1,10 @@
 // Both ends, a frame and its reply at a time. Every second reply of 260 bytes is lost, and the wait for it ends.
 use crate::print;
-use arrival::Outcome;
-use arrival::Request;
-use arrival::ToolState;
 use catalog::AnswerName;
 use octets::Place;
+use progress::Outcome;
+use progress::Request;
+use progress::ToolState;
 use services::UnitState;
 
 // Both states, the length of the frame that is out, and how often the unit was called.

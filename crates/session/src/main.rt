@@ -3,9 +3,9 @@ mod ends;
 mod print;
 mod sample;
 
-use arrival::Request;
 use catalog::AnswerName;
 use ends::Session;
+use progress::Request;
 
 // The requests of a download, in order; the fourth to the sixth are transfers.
 fn request_at(k: usize) -> Request {
@@ -55,7 +55,7 @@ fn step(session: Session, k: usize, store: &[u8], room: &mut [u8]) -> Session {
 
 fn steps(store: &[u8], room: &mut [u8]) {
     let unit = services::state::fresh(2);
-    let tool = arrival::state::fresh();
+    let tool = progress::state::fresh();
     let mut session = Session {
         unit,
         tool,

@@ -11,11 +11,11 @@ use Rattle.octets.specs.BigEndian.{numberOf, bytesOf, numberAt}
 use Rattle.octets.proofs.NumberLaws.{number-of-bytes}
 use Rattle.octets.proofs.Tests.{and-left, and-right}
 use Rattle.split.specs.Codes.{sub}
-use Rattle.arrival.specs.declared.Request.{Request}
-use Rattle.arrival.specs.declared.Request.the-variants as requests
-use Rattle.arrival.specs.declared.Outcome.{Outcome}
-use Rattle.arrival.specs.declared.Outcome.the-variants.{Fresh, Waiting, Done, NoAnswer, NoRoom, Refused}
-use Rattle.arrival.specs.declared.ToolState.{ToolState}
+use Rattle.progress.specs.declared.Request.{Request}
+use Rattle.progress.specs.declared.Request.the-variants as requests
+use Rattle.progress.specs.declared.Outcome.{Outcome}
+use Rattle.progress.specs.declared.Outcome.the-variants.{Fresh, Waiting, Done, NoAnswer, NoRoom, Refused}
+use Rattle.progress.specs.declared.ToolState.{ToolState}
 use Rattle.states.specs.Packed.{requestByte, requestFrom, outcomeByte, codeByte, outcomeFrom, packedTool, isTool, noTool, unpackedTool}
 use Rattle.states.proofs.FieldLaws.{spelled, field-two, field-back}
 

@@ -16,7 +16,7 @@ use Rattle.split.specs.Codes.{sub}
 use Rattle.services.specs.declared.Phase.{Phase}
 use Rattle.services.specs.declared.Phase.the-variants.{Closed, Started, Session, Granted, Sending}
 use Rattle.services.specs.declared.UnitState.{UnitState}
-use Rattle.arrival.specs.State.{noName}
+use Rattle.progress.specs.State.{noName}
 use Rattle.states.specs.Packed.{phaseByte, phaseFrom, namePacked, lastPacked, packedUnit, unitName, unitLast, sendsNothing, isUnit, noUnit, unpackedUnit}
 use Rattle.states.proofs.FieldLaws.{spelled, field-two, field-back}
 

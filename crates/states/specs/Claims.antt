@@ -5,7 +5,7 @@ use mathlib.Core.List.{List}
 use mathlib.Core.Path.{_≡_}
 use Rattle.octets.specs.Buffer.{Bytes}
 use Rattle.services.specs.declared.UnitState.{UnitState}
-use Rattle.arrival.specs.declared.ToolState.{ToolState}
+use Rattle.progress.specs.declared.ToolState.{ToolState}
 use Rattle.states.specs.Packed.{namePacked, lastPacked, packedUnit, isUnit, unpackedUnit, packedTool, isTool, unpackedTool}
 
 pub record StateClaims : Type 0 where

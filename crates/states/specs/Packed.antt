@@ -12,12 +12,12 @@ use Rattle.split.specs.Codes.{sub}
 use Rattle.services.specs.declared.Phase.{Phase}
 use Rattle.services.specs.declared.Phase.the-variants.{Closed, Started, Session, Granted, Sending}
 use Rattle.services.specs.declared.UnitState.{UnitState}
-use Rattle.arrival.specs.declared.Request.{Request}
-use Rattle.arrival.specs.declared.Request.the-variants as requests
-use Rattle.arrival.specs.declared.Outcome.{Outcome}
-use Rattle.arrival.specs.declared.Outcome.the-variants.{Fresh, Waiting, Done, NoAnswer, NoRoom, Refused}
-use Rattle.arrival.specs.declared.ToolState.{ToolState}
-use Rattle.arrival.specs.State.{noName}
+use Rattle.progress.specs.declared.Request.{Request}
+use Rattle.progress.specs.declared.Request.the-variants as requests
+use Rattle.progress.specs.declared.Outcome.{Outcome}
+use Rattle.progress.specs.declared.Outcome.the-variants.{Fresh, Waiting, Done, NoAnswer, NoRoom, Refused}
+use Rattle.progress.specs.declared.ToolState.{ToolState}
+use Rattle.progress.specs.State.{noName}
 
 -- The unit: kind, rate, pending rate (0 none), phase, TREP, day (4), last number sent (2)
 

@@ -3,7 +3,7 @@ use Prim.Native.Nat.{ℕ}
 use mathlib.Core.Bool.{cond}
 use mathlib.Core.List.{List}
 use Rattle.services.specs.declared.UnitState.{UnitState}
-use Rattle.arrival.specs.declared.ToolState.{ToolState}
+use Rattle.progress.specs.declared.ToolState.{ToolState}
 use Rattle.states.specs.declared.UnitReading.{UnitReading}
 use Rattle.states.specs.declared.UnitReading.the-variants as units
 use Rattle.states.specs.declared.ToolReading.{ToolReading}

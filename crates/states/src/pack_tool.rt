@@ -1,10 +1,10 @@
 // The tool's state in 15 bytes: request, outcome, wire code, TREP, day (4), sendings, expected (2), held (4).
-use arrival::Outcome;
-use arrival::Request;
-use arrival::ToolState;
 use catalog::AnswerName;
 use octets::big_endian::byte_at;
 use octets::big_endian::number_at;
+use progress::Outcome;
+use progress::Request;
+use progress::ToolState;
 use split::SubMessage;
 ghost use mathlib.Core.Path.{_≡_};
 ghost use mathlib.Core.Bool.{true};

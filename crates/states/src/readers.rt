@@ -1,8 +1,8 @@
 // Readers of packed states: a number of the state, or NO_STATE where the bytes are no state.
 use crate::ToolReading;
 use crate::UnitReading;
-use arrival::ToolState;
 use octets::big_endian::usize_of;
+use progress::ToolState;
 use services::UnitState;
 ghost use mathlib.Core.Path.{_≡_};
 ghost use Rattle.states.specs.Readers.{unitValue, unitRead, toolValue, toolRead};

@@ -15,11 +15,11 @@ use Rattle.frame.specs.declared.End.the-variants as ends
 use Rattle.frame.specs.Frame.{frameOf}
 use Rattle.split.specs.Codes.{stopCode}
 use Rattle.split.specs.declared.AckCode.{AckCode}
-use Rattle.arrival.specs.declared.Outcome.the-variants.{Done, NoAnswer}
-use Rattle.arrival.specs.declared.ToolState.{ToolState}
+use Rattle.progress.specs.declared.Outcome.the-variants.{Done, NoAnswer}
+use Rattle.progress.specs.declared.ToolState.{ToolState}
 use Rattle.arrival.specs.declared.Meaning.{Meaning}
 use Rattle.arrival.specs.declared.Meaning.the-variants.{FailedWait, WholeAnswer, SubMessageTaken, LastTaken, NoRoomForSubMessage}
-use Rattle.arrival.specs.State.{heldMost}
+use Rattle.progress.specs.State.{heldMost}
 use Rattle.requests.specs.Sent.{acknowledgement, frameSent}
 use Rattle.tool.specs.After.{ended, waits, afterFailedWait, takes, stateAfter, sentAfter}
 

@@ -11,13 +11,13 @@ use borrow.Author.Tests.{eqb-true}
 use Rattle.octets.proofs.Tests.{never}
 use Rattle.frame.specs.declared.Addresses.{Addresses}
 use Rattle.catalog.specs.declared.AnswerName.{AnswerName}
-use Rattle.arrival.specs.declared.Request.{Request}
-use Rattle.arrival.specs.declared.Outcome.the-variants.{NoAnswer}
-use Rattle.arrival.specs.declared.ToolState.{ToolState}
+use Rattle.progress.specs.declared.Request.{Request}
+use Rattle.progress.specs.declared.Outcome.the-variants.{NoAnswer}
+use Rattle.progress.specs.declared.ToolState.{ToolState}
 use Rattle.arrival.specs.declared.Meaning.{Meaning}
 use Rattle.arrival.specs.declared.Meaning.the-variants.{Ignored, FailedWait, Confirmed, WholeAnswer, SubMessageTaken, LastTaken, NoRoomForAnswer}
 use Rattle.arrival.specs.declared.Meaning.the-variants.{NoRoomForSubMessage, RefusedBy}
-use Rattle.arrival.specs.State.{heldMost}
+use Rattle.progress.specs.State.{heldMost}
 use Rattle.arrival.specs.Meaning.{arrivalMeaning, arrivalBytes}
 use Rattle.tool.specs.After.{takes, ended, waits, afterFailedWait, stateAfter}
 use Rattle.tool.specs.Call.{begun, beginNumber, beginState, eventNumber, eventState}

@@ -9,7 +9,7 @@ use Rattle.octets.specs.Buffer.{put, copied}
 use Rattle.octets.proofs.BufferLaws.{lent-copy, length-put, put-put}
 use Rattle.split.specs.Join.{carriedBy}
 use Rattle.split.specs.declared.Received.{Received}
-use Rattle.arrival.specs.declared.ToolState.{ToolState}
+use Rattle.progress.specs.declared.ToolState.{ToolState}
 use Rattle.arrival.specs.declared.Meaning.{Meaning}
 use Rattle.arrival.specs.Meaning.{header, newBytes}
 use Rattle.arrival.proofs.RoomLaws.{new-bytes}

@@ -12,10 +12,10 @@ use Rattle.frame.specs.declared.End.the-variants as ends
 use Rattle.frame.specs.Frame.{judged, dataOf}
 use Rattle.split.specs.declared.Received.{Received}
 use Rattle.split.specs.declared.Received.the-variants.{Whole, Full, Last, Above, Other}
-use Rattle.arrival.specs.declared.ToolState.{ToolState}
+use Rattle.progress.specs.declared.ToolState.{ToolState}
 use Rattle.arrival.specs.declared.Meaning.{Meaning}
 use Rattle.arrival.specs.declared.Meaning.the-variants.{Ignored, FailedWait, Confirmed, RefusedBy}
-use Rattle.arrival.specs.State.{isTransfer}
+use Rattle.progress.specs.State.{isTransfer}
 use Rattle.arrival.specs.Replies.{replyWanted}
 use Rattle.arrival.specs.Meaning.{newBytes, fits, meaningOf, receivedBy, transferMeaning, isRefusal, refusalMeaning, dataMeaning, arrivalMeaning, arrivalBytes}
 use Rattle.tool.specs.After.{takes}

@@ -8,9 +8,9 @@ use Rattle.frame.specs.declared.Addresses.{Addresses}
 use Rattle.frame.specs.declared.End.the-variants as ends
 use Rattle.frame.specs.Frame.{frameOf}
 use Rattle.split.specs.Codes.{sub, stopCode}
-use Rattle.arrival.specs.declared.Outcome.{Outcome}
-use Rattle.arrival.specs.declared.Outcome.the-variants.{Waiting, Done, NoAnswer, NoRoom, Refused}
-use Rattle.arrival.specs.declared.ToolState.{ToolState}
+use Rattle.progress.specs.declared.Outcome.{Outcome}
+use Rattle.progress.specs.declared.Outcome.the-variants.{Waiting, Done, NoAnswer, NoRoom, Refused}
+use Rattle.progress.specs.declared.ToolState.{ToolState}
 use Rattle.arrival.specs.declared.Meaning.{Meaning}
 use Rattle.arrival.specs.declared.Meaning.the-variants.{Ignored, FailedWait, Confirmed, WholeAnswer, SubMessageTaken}
 use Rattle.arrival.specs.declared.Meaning.the-variants.{LastTaken, NoRoomForAnswer, NoRoomForSubMessage, RefusedBy}

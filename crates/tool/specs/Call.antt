@@ -12,13 +12,13 @@ use Rattle.frame.specs.declared.Addresses.{Addresses}
 use Rattle.catalog.specs.Name.{nameNumber}
 use Rattle.catalog.specs.declared.AnswerName.{AnswerName}
 use Rattle.split.specs.Codes.{sub}
-use Rattle.arrival.specs.declared.Request.{Request}
-use Rattle.arrival.specs.declared.Outcome.the-variants.{Waiting}
-use Rattle.arrival.specs.declared.ToolState.{ToolState}
+use Rattle.progress.specs.declared.Request.{Request}
+use Rattle.progress.specs.declared.Outcome.the-variants.{Waiting}
+use Rattle.progress.specs.declared.ToolState.{ToolState}
 use Rattle.tool.specs.declared.ToolStep.{ToolStep}
 use Rattle.arrival.specs.declared.Meaning.{Meaning}
 use Rattle.arrival.specs.declared.Meaning.the-variants.{FailedWait}
-use Rattle.arrival.specs.State.{isTransfer, isWaiting, possible}
+use Rattle.progress.specs.State.{isTransfer, isWaiting, possible}
 use Rattle.requests.specs.Sent.{frameSent}
 use Rattle.arrival.specs.Meaning.{arrivalMeaning, arrivalBytes}
 use Rattle.tool.specs.After.{stateAfter, sentAfter, roomAfter}

@@ -1,7 +1,7 @@
 // What follows from an event: the next state, and the frame that goes out.
 use arrival::Meaning;
-use arrival::Outcome;
-use arrival::ToolState;
+use progress::Outcome;
+use progress::ToolState;
 use split::SubMessage;
 ghost use mathlib.Core.Path.{_≡_};
 ghost use mathlib.Core.Bool.{true};
@@ -9,7 +9,7 @@ ghost use Prim.Native.Nat.{_+_, _≤_, _<_};
 ghost use lib.ListN.{length};
 ghost use Rattle.octets.specs.Buffer.{front};
 ghost use Rattle.frame.specs.Frame.{frameMost, lab};
-ghost use Rattle.arrival.specs.State.{heldMost};
+ghost use Rattle.progress.specs.State.{heldMost};
 ghost use Rattle.tool.specs.After.{ended, waits, afterFailedWait, takes, stateAfter, sentAfter};
 
 // Whether the frame's bytes go into the room.

@@ -1,21 +1,21 @@
 // The tool's calls: begin, arrival and wait's end, with the refusals in order.
 use crate::ToolStep;
 use arrival::Meaning;
-use arrival::Outcome;
-use arrival::Request;
-use arrival::ToolState;
 use catalog::AnswerName;
 use octets::numbers::BUFFER_SHORT;
 use octets::numbers::NOT_IN_TABLE;
 use octets::numbers::OUT_OF_TURN;
 use octets::wire::FRAME_MOST;
+use progress::Outcome;
+use progress::Request;
+use progress::ToolState;
 use split::SubMessage;
 ghost use mathlib.Core.Path.{_≡_};
 ghost use mathlib.Core.Bool.{true};
 ghost use Prim.Native.Nat.{_+_, _≤_};
 ghost use lib.ListN.{length};
 ghost use Rattle.frame.specs.Frame.{lab};
-ghost use Rattle.arrival.specs.State.{heldMost, isTransfer};
+ghost use Rattle.progress.specs.State.{heldMost, isTransfer};
 ghost use Rattle.tool.specs.After.{takes};
 ghost use Rattle.tool.specs.Call.{requestNumber, beginNumber, begun, beginResult, beginOut};
 ghost use Rattle.tool.specs.Call.{eventNumber, eventResult, eventOut};
@@ -24,7 +24,7 @@ ghost use Rattle.tool.specs.Call.{arrivalResult, arrivalRoom, arrivalOut
 fn request_number(request: Request, name: AnswerName) -> u8
     ensures { λ r. ⌜ r ≡ requestNumber request name ⌝ }
 {
-    if arrival::state::is_transfer(request) {
+    if progress::state::is_transfer(request) {
         return catalog::name_number(name);
     }
     if name.trep != 0 {
@@ -44,7 +44,7 @@ fn begin_number(state: ToolState, request: Request, name: AnswerName, out_len: u
     if number != 0 {
         return number;
     }
-    if arrival::state::is_waiting(outcome) {
+    if progress::state::is_waiting(outcome) {
         return OUT_OF_TURN;
     }
     if out_len < FRAME_MOST {
@@ -92,10 +92,10 @@ fn event_number(state: ToolState, room_len: usize, out_len: usize) -> u8
     ensures { λ r. ⌜ r ≡ eventNumber state «room_len» «out_len» ⌝ }
 {
     let outcome = state.outcome;
-    if !arrival::state::is_waiting(outcome) {
+    if !progress::state::is_waiting(outcome) {
         return OUT_OF_TURN;
     }
-    if !arrival::state::possible(state, room_len) {
+    if !progress::state::possible(state, room_len) {
         return OUT_OF_TURN;
     }
     if out_len < FRAME_MOST {

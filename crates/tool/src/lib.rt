@@ -1,5 +1,5 @@
 // The download tool (document 01, The tool): what follows from every begin and event, and its calls.
-use arrival::ToolState;
+use progress::ToolState;
 
 mod after;
 pub mod call;

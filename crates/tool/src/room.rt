@@ -1,7 +1,7 @@
 // The lent room, which takes the new bytes.
 use arrival::Meaning;
-use arrival::ToolState;
 use octets::wire::ANSWER;
+use progress::ToolState;
 use split::Received;
 ghost use mathlib.Core.Path.{_≡_};
 ghost use mathlib.Core.Bool.{true};

@@ -1,9 +1,9 @@
 -- Name, held bytes, room and bound, in this order.
 use Rattle.octets.proofs.Tests.{flag-nt, flag-nf}
-use Rattle.arrival.proofs.StateLaws.{transfer-unnamed, transfer-held, transfer-room, transfer-most}
+use Rattle.progress.proofs.StateLaws.{transfer-unnamed, transfer-held, transfer-room, transfer-most}
 use borrow.Author.Needs.{needs}
-use Rattle.arrival.proofs.state.transfer_possible.Statement.{statement}
-use Rattle.arrival.proofs.state.transfer_possible.Tie as tie
+use Rattle.progress.proofs.state.transfer_possible.Statement.{statement}
+use Rattle.progress.proofs.state.transfer_possible.Tie as tie
 
 ruleset all = (needs, flag-nt, flag-nf, transfer-unnamed, transfer-held, transfer-room, transfer-most)
 

@@ -7,7 +7,7 @@ use split::SubMessage;
 use split::pieces::PIECE;
 ghost use mathlib.Core.Path.{_≡_};
 ghost use Prim.Native.Nat.{_<_};
-ghost use Rattle.arrival.specs.State.{freshTool, isTransfer, isWaiting, heldRight, transferPossible, possible};
+ghost use Rattle.progress.specs.State.{freshTool, isTransfer, isWaiting, heldRight, transferPossible, possible};
 
 // "If they would pass the room or 60,000"
 pub const HELD_MOST: usize = 60000;

@@ -1,9 +1,9 @@
 -- A state that waits is judged, any other is possible.
 use Rattle.octets.proofs.Tests.{flag-nt, flag-nf}
-use Rattle.arrival.proofs.StateLaws.{possible-still, possible-unsent, possible-over, possible-fixed, possible-transfer}
+use Rattle.progress.proofs.StateLaws.{possible-still, possible-unsent, possible-over, possible-fixed, possible-transfer}
 use borrow.Author.Needs.{needs}
-use Rattle.arrival.proofs.state.possible.Statement.{statement}
-use Rattle.arrival.proofs.state.possible.Tie as tie
+use Rattle.progress.proofs.state.possible.Statement.{statement}
+use Rattle.progress.proofs.state.possible.Tie as tie
 
 ruleset all = (needs, flag-nt, flag-nf, possible-still, possible-unsent, possible-over, possible-fixed, possible-transfer)
 

@@ -7,8 +7,8 @@ use lib.Dec.{eqb, leb}
 use borrow.Author.Tests.{le-leb, lt-leb, eq-eqb, ne-eqb, leb-true, eqb-true}
 use Rattle.octets.proofs.Tests.{and-left, and-right, never}
 use Rattle.catalog.specs.Name.{nameNumber}
-use Rattle.arrival.specs.declared.ToolState.{ToolState}
-use Rattle.arrival.specs.State.{heldMost, isTransfer, isWaiting, heldRight, transferPossible, possible}
+use Rattle.progress.specs.declared.ToolState.{ToolState}
+use Rattle.progress.specs.State.{heldMost, isTransfer, isWaiting, heldRight, transferPossible, possible}
 
 -- The bytes held with number e expected
 

@@ -1,8 +1,8 @@
 -- First, never, or one of those behind.
-use Rattle.arrival.proofs.StateLaws.{held-first, held-never, held-more}
+use Rattle.progress.proofs.StateLaws.{held-first, held-never, held-more}
 use borrow.Author.Needs.{needs}
-use Rattle.arrival.proofs.state.held_right.Statement.{statement}
-use Rattle.arrival.proofs.state.held_right.Tie as tie
+use Rattle.progress.proofs.state.held_right.Statement.{statement}
+use Rattle.progress.proofs.state.held_right.Tie as tie
 
 ruleset all = (needs, held-first, held-never, held-more)
 

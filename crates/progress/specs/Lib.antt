@@ -1,0 +1,2 @@
+-- Document 01, The tool: its state.
+pub mod State
