@@ -21,7 +21,7 @@ use Rattle.arrival.specs.declared.Meaning.the-variants.{Ignored, FailedW
 use Rattle.progress.specs.State.{isTransfer}
 use Rattle.arrival.specs.Replies.{sidSent, replyWanted}
 use Rattle.arrival.specs.Meaning.{newBytes, fits, meaningOf, receivedBy, transferMeaning, isRefusal, refusalMeaning, dataMeaning, arrivalMeaning}
-use Rattle.arrival.specs.Meaning.{arrivalBytes, arrivalOf}
+use Rattle.arrival.specs.Meaning.{takes, arrivalBytes, arrivalOf}
 
 -- "the SID last sent", and the reply, for each request
 
@@ -100,3 +100,7 @@ module _ (a : Addresses) (roomLen : ℕ) (t : ToolState) (b d : List ℕ) (p : P
       → _≡_ {A = Arrival} (record { place = p; received = x; new = n; meaning = m }) (arrivalOf a roomLen t b)
   unfolding arrivalMeaning
   arrival-good m h e = arrives m (rw (← number-is, h, ← data-is) e)
+
+-- what is taken, by the meaning that the code matched
+pub takes-at : (m m′ : Meaning) (r : Bool) → m ≡ m′ → r ≡ takes m′ → r ≡ takes m
+takes-at m m′ r same e = rw same e

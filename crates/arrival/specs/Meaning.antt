@@ -1,6 +1,6 @@
 -- What a string that arrives means to a waiting tool.
 use Prim.Native.Nat.{ℕ, _+_}
-use mathlib.Core.Bool.{Bool, cond, _&&_}
+use mathlib.Core.Bool.{Bool, true, false, cond, _&&_}
 use mathlib.Core.List.{List, [], _∷_, _++_}
 use lib.ListN.{length, getD}
 use lib.Dec.{eqb, leb}
@@ -63,6 +63,18 @@ dataMeaning roomLen t d =
     cond (isRefusal t d) (refusalMeaning (getD d 2 0))
     (cond (isTransfer (t .request)) (transferMeaning roomLen t d)
     (cond (sameBytes d (replyWanted (t .request))) Confirmed Ignored))
+
+-- what is taken: its bytes go into the room
+unfoldable pub takes : Meaning → Bool
+takes Ignored = false
+takes FailedWait = false
+takes Confirmed = false
+takes WholeAnswer = true
+takes SubMessageTaken = true
+takes LastTaken = true
+takes NoRoomForAnswer = false
+takes NoRoomForSubMessage = false
+takes (RefusedBy code) = false
 
 -- a string that arrives: "At the tool a frame that fails the frame rules is an event, not a refusal"
 unfoldable pub arrivalMeaning : Addresses → ℕ → ToolState → List ℕ → Meaning

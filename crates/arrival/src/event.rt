@@ -10,7 +10,7 @@ ghost use mathlib.Core.Path.{_≡_};
 ghost use mathlib.Core.Bool.{cond};
 ghost use lib.ListN.{length};
 ghost use Rattle.frame.specs.Frame.{lab};
-ghost use Rattle.arrival.specs.Meaning.{newBytes, receivedBy, meaningOf};
+ghost use Rattle.arrival.specs.Meaning.{newBytes, receivedBy, meaningOf, takes};
 ghost use Rattle.arrival.specs.Meaning.{isRefusal, refusalMeaning, dataMeaning, arrivalOf};
 
 fn is_refusal(state: ToolState, data: &[u8]) -> bool
@@ -80,6 +80,23 @@ fn data_meaning(
         Meaning::Confirmed
     } else {
         Meaning::Ignored
+    }
+}
+
+// Whether the frame's bytes go into the room.
+pub fn takes(meaning: Meaning) -> bool
+    ensures { λ r. ⌜ r ≡ takes meaning ⌝ }
+{
+    match meaning {
+        Meaning::Ignored => false,
+        Meaning::FailedWait => false,
+        Meaning::Confirmed => false,
+        Meaning::WholeAnswer => true,
+        Meaning::SubMessageTaken => true,
+        Meaning::LastTaken => true,
+        Meaning::NoRoomForAnswer => false,
+        Meaning::NoRoomForSubMessage => false,
+        Meaning::RefusedBy(_) => false,
     }
 }
 

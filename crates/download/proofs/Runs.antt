@@ -20,7 +20,9 @@ use Rattle.progress.specs.State.{heldRight, transferPossible, possible as toolP
 use Rattle.requests.specs.Sent.{transferRequest, acknowledgement, transferData, frameSent}
 use Rattle.arrival.specs.Replies.{sidSent}
 use Rattle.arrival.specs.Meaning.{header, fits, meaningOf, transferMeaning, isRefusal, refusalMeaning, dataMeaning, arrivalMeaning, arrivalBytes}
-use Rattle.tool.specs.After.{takes, afterFailedWait, stateAfter, sentAfter, roomAfter}
+use Rattle.arrival.specs.Meaning.{takes}
+use Rattle.progress.specs.Next.{afterFailedWait}
+use Rattle.tool.specs.After.{stateAfter, sentAfter, roomAfter}
 use Rattle.tool.specs.Call.{requestNumber, beginNumber, beginState, beginSent, beginResult, eventNumber, eventState, eventSent, eventRoom, eventResult}
 
 -- a lookup in a store

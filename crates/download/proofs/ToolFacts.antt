@@ -33,7 +33,9 @@ use Rattle.arrival.specs.declared.Meaning.the-variants.{FailedWait, WholeAnswer
 use Rattle.progress.specs.State.{heldRight, transferPossible, possible}
 use Rattle.requests.specs.Sent.{frameSent}
 use Rattle.arrival.specs.Meaning.{header, newBytes, fits, meaningOf, transferMeaning, isRefusal, dataMeaning, arrivalMeaning, arrivalBytes}
-use Rattle.tool.specs.After.{takes as takesBytes, afterFailedWait, stateAfter, sentAfter, roomAfter}
+use Rattle.arrival.specs.Meaning.{takes as takesBytes}
+use Rattle.progress.specs.Next.{afterFailedWait}
+use Rattle.tool.specs.After.{stateAfter, sentAfter, roomAfter}
 use Rattle.tool.specs.Call.{eventNumber, eventState, eventSent, eventRoom, eventResult}
 use Rattle.line.specs.Line.{Result, silent, sends, toolEnd}
 use Rattle.line.proofs.Cases.{byTest}

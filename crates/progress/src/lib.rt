@@ -2,6 +2,7 @@
 use catalog::AnswerName;
 use split::SubMessage;
 
+pub mod next;
 pub mod state;
 
 // "One request at a time: start, session, upload, exit, stop or a transfer."

@@ -21,23 +21,12 @@ use Rattle.arrival.specs.declared.Meaning.{Meaning}
 use Rattle.arrival.specs.declared.Meaning.the-variants.{FailedWait, WholeAnswer, SubMessageTaken, LastTaken, NoRoomForSubMessage}
 use Rattle.progress.specs.State.{heldMost}
 use Rattle.requests.specs.Sent.{acknowledgement, frameSent}
-use Rattle.tool.specs.After.{ended, waits, afterFailedWait, takes, stateAfter, sentAfter}
-
--- "after the third sending the request ends"
-module _ (t r : ToolState) where
-  pub third-ends : 3 ≤ t .sendings → r ≡ ended t NoAnswer (t .held) → r ≡ afterFailedWait t
-  unfolding afterFailedWait
-  third-ends h e = rw (le-leb 3 (t .sendings) h) e
-
-  pub again-waits : t .sendings < 3 → r ≡ waits t (t .sendings + 1) (t .expected .0) (t .held) → r ≡ afterFailedWait t
-  unfolding afterFailedWait
-  again-waits h e = rw (lt-leb 3 (t .sendings) h) e
+use Rattle.progress.specs.Next.{ended, waits}
+use Rattle.arrival.specs.Meaning.{takes}
+use Rattle.tool.specs.After.{stateAfter, sentAfter}
 
 -- by the meaning that the code matched
 module _ (m m′ : Meaning) (same : m ≡ m′) where
-  pub takes-at : (r : Bool) → r ≡ takes m′ → r ≡ takes m
-  takes-at r e = rw same e
-
   pub state-at : (t r : ToolState) (n : ℕ) → r ≡ stateAfter t m′ n → r ≡ stateAfter t m n
   state-at t r n e = rw same e
 

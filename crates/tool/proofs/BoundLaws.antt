@@ -19,7 +19,9 @@ use Rattle.arrival.specs.declared.Meaning.the-variants.{Ignored, FailedWait, Co
 use Rattle.arrival.specs.declared.Meaning.the-variants.{NoRoomForSubMessage, RefusedBy}
 use Rattle.progress.specs.State.{heldMost}
 use Rattle.arrival.specs.Meaning.{arrivalMeaning, arrivalBytes}
-use Rattle.tool.specs.After.{takes, ended, waits, afterFailedWait, stateAfter}
+use Rattle.arrival.specs.Meaning.{takes}
+use Rattle.progress.specs.Next.{ended, waits, afterFailedWait}
+use Rattle.tool.specs.After.{stateAfter}
 use Rattle.tool.specs.Call.{begun, beginNumber, beginState, eventNumber, eventState}
 use Rattle.arrival.proofs.RoomLaws.{fits-in-most}
 use Rattle.tool.proofs.TakenLaws.{taken}

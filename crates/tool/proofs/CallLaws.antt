@@ -23,7 +23,8 @@ use Rattle.arrival.specs.declared.Meaning.{Meaning}
 use Rattle.arrival.specs.declared.Arrival.{Arrival}
 use Rattle.progress.specs.State.{heldMost, isTransfer, isWaiting, possible}
 use Rattle.arrival.specs.Meaning.{newBytes, arrivalBytes, arrivalOf}
-use Rattle.tool.specs.After.{takes, roomAfter}
+use Rattle.arrival.specs.Meaning.{takes}
+use Rattle.tool.specs.After.{roomAfter}
 use Rattle.tool.specs.Call.{requestNumber, beginNumber, eventNumber, eventResult, eventOut, eventRoom, arrivalResult, arrivalRoom, arrivalOut}
 use Rattle.progress.proofs.StateLaws.{waiting-transfer}
 use Rattle.arrival.proofs.RoomLaws.{fits-in-room, fits-in-most}

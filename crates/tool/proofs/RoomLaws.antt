@@ -13,7 +13,8 @@ use Rattle.progress.specs.declared.ToolState.{ToolState}
 use Rattle.arrival.specs.declared.Meaning.{Meaning}
 use Rattle.arrival.specs.Meaning.{header, newBytes}
 use Rattle.arrival.proofs.RoomLaws.{new-bytes}
-use Rattle.tool.specs.After.{takes, roomAfter}
+use Rattle.arrival.specs.Meaning.{takes}
+use Rattle.tool.specs.After.{roomAfter}
 
 -- header and data in the room: the tail from h on lent to the copy, then the tail behind the header
 pub kept : (h : ℕ) (v w o x y : List ℕ) → h + length v + length w ≤ length o → x ≡ copied v (take (length o - h) (drop h o))

@@ -18,7 +18,7 @@ use Rattle.arrival.specs.declared.Meaning.the-variants.{Ignored, FailedWait, Co
 use Rattle.progress.specs.State.{isTransfer}
 use Rattle.arrival.specs.Replies.{replyWanted}
 use Rattle.arrival.specs.Meaning.{newBytes, fits, meaningOf, receivedBy, transferMeaning, isRefusal, refusalMeaning, dataMeaning, arrivalMeaning, arrivalBytes}
-use Rattle.tool.specs.After.{takes}
+use Rattle.arrival.specs.Meaning.{takes}
 
 -- Where bytes are taken: a transfer, and they fit
 

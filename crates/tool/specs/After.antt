@@ -14,47 +14,9 @@ use Rattle.progress.specs.declared.ToolState.{ToolState}
 use Rattle.arrival.specs.declared.Meaning.{Meaning}
 use Rattle.arrival.specs.declared.Meaning.the-variants.{Ignored, FailedWait, Confirmed, WholeAnswer, SubMessageTaken}
 use Rattle.arrival.specs.declared.Meaning.the-variants.{LastTaken, NoRoomForAnswer, NoRoomForSubMessage, RefusedBy}
+use Rattle.arrival.specs.Meaning.{takes}
+use Rattle.progress.specs.Next.{ended, waits, afterFailedWait}
 use Rattle.requests.specs.Sent.{acknowledgement, frameSent}
-
--- its bytes go into the room
-unfoldable pub takes : Meaning → Bool
-takes Ignored = false
-takes FailedWait = false
-takes Confirmed = false
-takes WholeAnswer = true
-takes SubMessageTaken = true
-takes LastTaken = true
-takes NoRoomForAnswer = false
-takes NoRoomForSubMessage = false
-takes (RefusedBy code) = false
-
--- "An ended state keeps all as at its last wait but outcome and held length"
-abbrev pub ended : ToolState → Outcome → ℕ → ToolState
-ended t outcome held =
-    record {
-      request = t .request;
-      outcome = outcome;
-      name = t .name;
-      sendings = t .sendings;
-      expected = t .expected;
-      held = held;
-    }
-
-abbrev pub waits : ToolState → ℕ → ℕ → ℕ → ToolState
-waits t sendings e held =
-    record {
-      request = t .request;
-      outcome = Waiting;
-      name = t .name;
-      sendings = sendings;
-      expected = sub e;
-      held = held;
-    }
-
--- "After a failed wait the same frame goes out again; after the third sending the request ends 'no answer' (DDP_027)"
-unfoldable pub afterFailedWait : ToolState → ToolState
-afterFailedWait t =
-    cond (leb 3 (t .sendings)) (ended t NoAnswer (t .held)) (waits t (t .sendings + 1) (t .expected .0) (t .held))
 
 -- the next state; n new bytes
 unfoldable pub stateAfter : ToolState → Meaning → ℕ → ToolState

@@ -10,69 +10,8 @@ ghost use lib.ListN.{length};
 ghost use Rattle.octets.specs.Buffer.{front};
 ghost use Rattle.frame.specs.Frame.{frameMost, lab};
 ghost use Rattle.progress.specs.State.{heldMost};
-ghost use Rattle.tool.specs.After.{ended, waits, afterFailedWait, takes, stateAfter, sentAfter};
-
-// Whether the frame's bytes go into the room.
-pub(crate) fn takes_in(meaning: Meaning) -> bool
-    ensures { λ r. ⌜ r ≡ takes meaning ⌝ }
-{
-    match meaning {
-        Meaning::Ignored => false,
-        Meaning::FailedWait => false,
-        Meaning::Confirmed => false,
-        Meaning::WholeAnswer => true,
-        Meaning::SubMessageTaken => true,
-        Meaning::LastTaken => true,
-        Meaning::NoRoomForAnswer => false,
-        Meaning::NoRoomForSubMessage => false,
-        Meaning::RefusedBy(_) => false,
-    }
-}
-
-// The same request at its end.
-fn end(state: ToolState, outcome: Outcome, held: u32) -> ToolState
-    ensures { λ r. ⌜ r ≡ ended state outcome held ⌝ }
-{
-    let request = state.request;
-    let kept = state.name;
-    let expected = state.expected;
-    ToolState {
-        request,
-        outcome,
-        name: kept,
-        sendings: state.sendings,
-        expected,
-        held,
-    }
-}
-
-// The same request, waiting.
-fn wait(state: ToolState, sendings: u8, expected: SubMessage, held: u32) -> ToolState
-    ensures { λ r. ⌜ r ≡ waits state sendings (expected .0) held ⌝ }
-{
-    let request = state.request;
-    let name = state.name;
-    ToolState {
-        request,
-        outcome: Outcome::Waiting,
-        name,
-        sendings,
-        expected,
-        held,
-    }
-}
-
-// "after the third sending the request ends 'no answer' (DDP_027)"
-fn after_failed_wait(state: ToolState) -> ToolState
-    ensures { λ r. ⌜ r ≡ afterFailedWait state ⌝ }
-{
-    let expected = state.expected;
-    let sendings = state.sendings;
-    if 3 <= sendings {
-        return end(state, Outcome::NoAnswer, state.held);
-    }
-    wait(state, sendings + 1, expected, state.held)
-}
+ghost use Rattle.arrival.specs.Meaning.{takes};
+ghost use Rattle.tool.specs.After.{stateAfter, sentAfter};
 
 // So many bytes are held with the new ones.
 fn grown(held: u32, new: usize) -> u32
@@ -91,19 +30,19 @@ pub(crate) fn state_after(state: ToolState, meaning: Meaning, new: usize) -> Too
     let held = state.held;
     match meaning {
         Meaning::Ignored => state,
-        Meaning::FailedWait => after_failed_wait(state),
-        Meaning::Confirmed => end(state, Outcome::Done, held),
-        Meaning::WholeAnswer => end(state, Outcome::Done, grown(held, new)),
-        Meaning::SubMessageTaken => wait(
+        Meaning::FailedWait => progress::next::after_failed_wait(state),
+        Meaning::Confirmed => progress::next::end(state, Outcome::Done, held),
+        Meaning::WholeAnswer => progress::next::end(state, Outcome::Done, grown(held, new)),
+        Meaning::SubMessageTaken => progress::next::wait(
             state,
             1,
             SubMessage(state.expected.0 + 1),
             grown(held, new),
         ),
-        Meaning::LastTaken => end(state, Outcome::Done, grown(held, new)),
-        Meaning::NoRoomForAnswer => end(state, Outcome::NoRoom, held),
-        Meaning::NoRoomForSubMessage => end(state, Outcome::NoRoom, held),
-        Meaning::RefusedBy(code) => end(state, Outcome::Refused(code), held),
+        Meaning::LastTaken => progress::next::end(state, Outcome::Done, grown(held, new)),
+        Meaning::NoRoomForAnswer => progress::next::end(state, Outcome::NoRoom, held),
+        Meaning::NoRoomForSubMessage => progress::next::end(state, Outcome::NoRoom, held),
+        Meaning::RefusedBy(code) => progress::next::end(state, Outcome::Refused(code), held),
     }
 }
 

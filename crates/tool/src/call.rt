@@ -16,7 +16,7 @@ ghost use Prim.Native.Nat.{_+_, _≤_};
 ghost use lib.ListN.{length};
 ghost use Rattle.frame.specs.Frame.{lab};
 ghost use Rattle.progress.specs.State.{heldMost, isTransfer};
-ghost use Rattle.tool.specs.After.{takes};
+ghost use Rattle.arrival.specs.Meaning.{takes};
 ghost use Rattle.tool.specs.Call.{requestNumber, beginNumber, begun, beginResult, beginOut};
 ghost use Rattle.tool.specs.Call.{eventNumber, eventResult, eventOut};
 ghost use Rattle.tool.specs.Call.{arrivalResult, arrivalRoom, arrivalOut, waitResult, waitOut};

@@ -9,8 +9,8 @@ ghost use mathlib.Core.List.{_++_};
 ghost use Prim.Native.Nat.{_+_, _≤_};
 ghost use lib.ListN.{length};
 ghost use Rattle.octets.specs.Buffer.{put};
-ghost use Rattle.arrival.specs.Meaning.{newBytes};
-ghost use Rattle.tool.specs.After.{takes, roomAfter};
+ghost use Rattle.arrival.specs.Meaning.{newBytes, takes};
+ghost use Rattle.tool.specs.After.{roomAfter};
 
 // Puts header and data right behind the held bytes: the tail is lent on to the copy, which knows only that part.
 fn keep(room: &mut [u8], held: usize, header: &[u8], carried: &[u8])
@@ -38,7 +38,7 @@ pub(crate) fn take_in(
     let held = state.held as usize;
     let header = [ANSWER, state.name.trep];
     let n = arrival::room::header_length(state);
-    if !crate::after::takes_in(meaning) {
+    if !arrival::event::takes(meaning) {
         return;
     }
     keep(

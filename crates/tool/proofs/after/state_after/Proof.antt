@@ -1,5 +1,6 @@
 -- One state for each meaning.
-use Rattle.tool.specs.After.{stateAfter, takes}
+use Rattle.arrival.specs.Meaning.{takes}
+use Rattle.tool.specs.After.{stateAfter}
 use Rattle.tool.proofs.AfterLaws.{state-at, state-whole, state-taken, state-last, taken-sum, taken-next}
 use borrow.Author.Needs.{needs}
 use Rattle.tool.proofs.after.state_after.Statement.{statement}

@@ -1,5 +1,6 @@
 -- One frame or none for each meaning.
-use Rattle.tool.specs.After.{sentAfter, takes}
+use Rattle.arrival.specs.Meaning.{takes}
+use Rattle.tool.specs.After.{sentAfter}
 use Rattle.tool.proofs.AfterLaws.{sent-at-length, sent-at-front, front-none, taken-next, third-length, third-front, again-length, again-front}
 use Rattle.tool.proofs.AfterLaws.{stop-length, stop-front}
 use Rattle.requests.proofs.SentLaws.{request-whole, request-front, acknowledgement-whole, acknowledgement-front}

@@ -1,15 +1,15 @@
 -- One flag for each meaning.
-use Rattle.tool.specs.After.{takes}
-use Rattle.tool.proofs.AfterLaws.{takes-at}
+use Rattle.arrival.specs.Meaning.{takes}
+use Rattle.arrival.proofs.MeaningLaws.{takes-at}
 use borrow.Author.Needs.{needs}
-use Rattle.tool.proofs.after.takes_in.Statement.{statement}
-use Rattle.tool.proofs.after.takes_in.Tie as tie
+use Rattle.arrival.proofs.event.takes.Statement.{statement}
+use Rattle.arrival.proofs.event.takes.Tie as tie
 
 ruleset all = (needs, takes-at)
 
-pub takes-in-spec : {M : Type 1} → statement M
+pub takes-spec : {M : Type 1} → statement M
 unfolding takes
-takes-in-spec =
+takes-spec =
     tie.close
     (tie.spec
     (λ c. search all)

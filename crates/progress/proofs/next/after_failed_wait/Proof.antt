@@ -1,8 +1,8 @@
 -- Three sendings or fewer.
-use Rattle.tool.proofs.AfterLaws.{third-ends, again-waits}
+use Rattle.progress.proofs.NextLaws.{third-ends, again-waits}
 use borrow.Author.Needs.{needs}
-use Rattle.tool.proofs.after.after_failed_wait.Statement.{statement}
-use Rattle.tool.proofs.after.after_failed_wait.Tie as tie
+use Rattle.progress.proofs.next.after_failed_wait.Statement.{statement}
+use Rattle.progress.proofs.next.after_failed_wait.Tie as tie
 
 ruleset all = (needs, third-ends, again-waits)
 
