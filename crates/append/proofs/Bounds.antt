@@ -14,7 +14,7 @@ use Rattle.catalog.specs.declared.AnswerName.{AnswerName}
 use Rattle.store.specs.Layout.{narrow, headerSize, entrySize, entriesSize, answers, streamLength, storeLength}
 use Rattle.store.specs.Check.{headerFits, countsFit, filledTo, placesRight, allKeep, storeNumber}
 use Rattle.store.specs.Answer.{answerNumber}
-use Rattle.store.specs.Contents.{Stored, backToBack, contents, Given, OfForm}
+use Rattle.store.specs.Contents.{Stored, backToBack, contents, InBytes, OfForm}
 use Rattle.store.specs.Claims.{Missing}
 use Rattle.store.proofs.FormLaws.{narrow-sized}
 use Rattle.store.proofs.AnswerLaws.{answer-named}
@@ -55,7 +55,7 @@ module _ (name : AnswerName) (d s : List ℕ) (allowed : nameNumber name ≡ 0) 
 
   -- "59,998 data bytes .. fill the stream"
   pub fills : length d ≡ 59998 → OfForm narrow s → storeNumber narrow s ≡ 0 → answers narrow s ≡ 0
-      → storeLength narrow s + entrySize narrow + 60000 ≤ length s → Given g → Fills a (name .day) s
+      → storeLength narrow s + entrySize narrow + 60000 ≤ length s → InBytes g → Fills a (name .day) s
   fills long formed z e room given =
       let t = empty-stream z e in
       let fresh : Fresh narrow a (name .day) s = record { judged = record { unbroken = z; listed = listed-answer }; missing = λ i l q. omega arith } in

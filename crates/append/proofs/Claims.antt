@@ -1,6 +1,6 @@
 -- The claims of specs/Claims.antt, each from its theorem.
 use Rattle.store.specs.Layout.{Form, Sized}
-use Rattle.append.specs.Claims.{NumberClaims, ListClaims, AppendClaims, Claims}
+use Rattle.append.specs.Claims.{NumberClaims, ListClaims, ReadBackClaims, AppendClaims}
 use Rattle.append.proofs.Theorems.{append-is, append-out, appended, appends}
 use Rattle.append.proofs.Refusals.{append-five, append-twelve, already-held, already-held-only, over-bound, over-bound-only}
 use Rattle.append.proofs.Refusals.{buffer-short, buffer-short-only, append-taken, append-taken-only}
@@ -20,10 +20,10 @@ numbers f =
 list : (f : Form) → Sized f → ListClaims f
 list f sized = record { appendRefusal = λ g s z. append-is f s z g; append = append-out f sized }
 
-leaves : (f : Form) → Sized f → AppendClaims f
+leaves : (f : Form) → Sized f → ReadBackClaims f
 leaves f sized = record { append = appended f sized; appends = appends f sized }
 
-pub claims : Claims
+pub claims : AppendClaims
 claims =
     record {
       numbers = numbers;

@@ -15,7 +15,7 @@ use Rattle.store.specs.Layout.{Form, Sized, entrySize, answers, streamLength, s
 use Rattle.store.specs.Check.{storeNumber}
 use Rattle.store.specs.Read.{lookupNumber, lookupPart, streamPart}
 use Rattle.store.specs.Contents.{Stored, nameFor, nothing, backToBack, entryBytes, entriesFrom, storeOf, contents}
-use Rattle.store.specs.Contents.{answerNamed, Given, Listed, Holdable, OfForm}
+use Rattle.store.specs.Contents.{answerNamed, InBytes, Listed, Holdable, OfForm}
 use Rattle.store.proofs.PositionLaws.{position-missing}
 use Rattle.store.proofs.FormLaws.{entries-suc}
 use Rattle.store.proofs.WrittenLaws.{back-append, entries-append, store-long}
@@ -93,7 +93,7 @@ append-out f sized g s formed taken =
     let z = accepted f (g .answer) (g .day) s taken .unbroken in
     rw (taken, with-answer f sized s z formed g)
 
-module _ (f : Form) (sized : Sized f) (g : Stored) (s : List ℕ) (formed : OfForm f s) (given : Given g)
+module _ (f : Form) (sized : Sized f) (g : Stored) (s : List ℕ) (formed : OfForm f s) (given : InBytes g)
     (taken : appendNumber f (g .answer) (g .day) s ≡ 0) where
   abbrev old : List Stored
   old = contents f s
@@ -124,7 +124,7 @@ module _ (f : Form) (sized : Sized f) (g : Stored) (s : List ℕ) (formed : OfFo
         listed = λ i h.
             elim (decLt i (length old)) as (λ _. Listed (getD new i nothing)) [
               | yes l ↦ rw (more-old old g i l) (old-fit .listed i l)
-              | no l ↦ let e : i ≡ length old = omega arith in rw (e, more-new old g) (record { given = given; number = ok .listed })
+              | no l ↦ let e : i ≡ length old = omega arith in rw (e, more-new old g) (record { inBytes = given; number = ok .listed })
             ];
         different = λ i j l h e.
             let a : i < length old = omega arith in

@@ -14,7 +14,7 @@ use Rattle.store.specs.Layout.{Form, Sized, narrow, entrySize, answers, streamL
 use Rattle.store.specs.Check.{storeNumber}
 use Rattle.store.specs.Read.{lookupNumber, lookupPart, streamPart}
 use Rattle.store.specs.Answer.{nameOf, answerNumber}
-use Rattle.store.specs.Contents.{Stored, nameFor, nothing, backToBack, storeOf, contents, Given, OfForm}
+use Rattle.store.specs.Contents.{Stored, nameFor, nothing, backToBack, storeOf, contents, InBytes, OfForm}
 use Rattle.store.specs.Claims.{Broken, Unlisted, HeldAs, Missing}
 use Rattle.append.specs.Append.{appendNumber, appendOut, appendNumberTo}
 
@@ -96,7 +96,7 @@ module _ (f : Form) where
   pub data Appends : List Stored → List ℕ → List ℕ → Type 0 where
     none : {s : List ℕ} → Appends [] s s
     more : {g : Stored} {gs : List Stored} {s r : List ℕ}
-        → appendNumber f (g .answer) (g .day) s ≡ done → Given g
+        → appendNumber f (g .answer) (g .day) s ≡ done → InBytes g
         → Appends gs (appendOut f (g .answer) (g .day) s) r → Appends (g ∷ gs) s r
 
   -- what they leave: the answers that were there and these behind them, in order
@@ -108,8 +108,8 @@ module _ (f : Form) where
     pub lookups : (i : ℕ) → i < length gs → Found (getD gs i nothing) r
     pub stream : streamPart f r ≡ streamPart f s ++ backToBack gs
 
-  pub record AppendClaims : Type 0 where
-    pub append : (g : Stored) (s : List ℕ) → OfForm f s → Given g → appendNumber f (g .answer) (g .day) s ≡ done
+  pub record ReadBackClaims : Type 0 where
+    pub append : (g : Stored) (s : List ℕ) → OfForm f s → InBytes g → appendNumber f (g .answer) (g .day) s ≡ done
         → Appended g s (appendOut f (g .answer) (g .day) s)
     pub appends : (gs : List Stored) (s r : List ℕ) → OfForm f s → storeNumber f s ≡ done → Appends gs s r
         → ReadsBack gs s r
@@ -127,15 +127,15 @@ pub record NarrowClaims : Type 0 where
   pub fills : (name : AnswerName) (d s : List ℕ) → nameNumber name ≡ done → length d ≡ 59998
       → OfForm narrow s → storeNumber narrow s ≡ done → answers narrow s ≡ 0
       → storeLength narrow s + entrySize narrow + 60000 ≤ length s
-      → Given (record { answer = 0x76 ∷ name .trep ∷ d; day = name .day })
+      → InBytes (record { answer = 0x76 ∷ name .trep ∷ d; day = name .day })
       → Fills (0x76 ∷ name .trep ∷ d) (name .day) s
   -- "one byte more is 8": in any store that does not hold that name, whatever room it has
   pub oneMore : (name : AnswerName) (d s : List ℕ) → nameNumber name ≡ done
       → length d ≡ 59999 → storeNumber narrow s ≡ done → Missing narrow name s
       → appendNumber narrow (0x76 ∷ name .trep ∷ d) (name .day) s ≡ overBound
 
-pub record Claims : Type 0 where
+pub record AppendClaims : Type 0 where
   pub numbers : (f : Form) → NumberClaims f
   pub list : (f : Form) → Sized f → ListClaims f
-  pub leaves : (f : Form) → Sized f → AppendClaims f
+  pub leaves : (f : Form) → Sized f → ReadBackClaims f
   pub narrowForm : NarrowClaims

@@ -11,6 +11,10 @@ use Rattle.catalog.specs.declared.AnswerName.{AnswerName}
 abbrev pub noAnswer : AnswerName
 noAnswer = record { trep = absent; day = 0 }
 
+-- the fields of a name where there is none: in a state without a transfer, beside a fixed request, in a refusal
+abbrev pub zeroName : AnswerName
+zeroName = record { trep = 0; day = 0 }
+
 -- the first second of the day that a second falls in; days have 86,400 seconds since 1970
 unfoldable pub firstSecond : ℕ → ℕ
 firstSecond second = second - second % 86400

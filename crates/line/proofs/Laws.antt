@@ -8,7 +8,7 @@ use Rattle.line.specs.Line.{Ends, System, Event, step}
 use Rattle.line.specs.Book.{Transfer, Outcome, waiting, done, noAnswer, heldOff, Book, Run, run, start}
 use Rattle.line.specs.Premises.{Each, AllAllowed, AllPlain}
 use Rattle.line.specs.Facts.{Facts}
-use Rattle.line.specs.Claims.{unnumbered, AfterAllowed, AfterPlain, ToolIs, Agrees}
+use Rattle.line.specs.Claims.{unnumbered, AfterAllowed, AfterPlain, ToolIs, EndsAgree}
 use Rattle.line.proofs.Cases.{never}
 use Rattle.line.proofs.Queue.{BareToTool, isRefused, asksTime, every}
 use Rattle.line.proofs.Numbers.{UnitNumbers, ToolNumbers, bookAt, sentBy, Reached, Counts, withReplies}
@@ -119,7 +119,7 @@ module _ (E : Ends) (T : Transfer E) (facts : Facts E T) (Unrepeatedly : Type 0)
       rw f at e
   toolIs t v m heldOff h c e s = rw (h .0) at e
 
-  pub agreesAt : (r : Run E) → Invariant E T facts Unrepeatedly r → Agrees E T facts r
+  pub agreesAt : (r : Run E) → Invariant E T facts Unrepeatedly r → EndsAgree E T facts r
   agreesAt r i =
       record {
         tool = rw (i .book, i .before) (toolIs (r .system .tool) (i .tool) (r .system .putOut) (i .outcome) (i .at .tool .reached)
@@ -160,7 +160,7 @@ module _ (E : Ends) (T : Transfer E) (facts : Facts E T) where
   pub after-allowed : (es : List (Event E)) → AllAllowed E T es (start E T .system) → AfterAllowed E T (run E T es (start E T))
   after-allowed es o = afterAt E T facts ⊥ (run E T es (start E T)) (invariant es o)
 
-  pub agrees : (es : List (Event E)) → AllAllowed E T es (start E T .system) → Agrees E T facts (run E T es (start E T))
+  pub agrees : (es : List (Event E)) → AllAllowed E T es (start E T .system) → EndsAgree E T facts (run E T es (start E T))
   agrees es o = agreesAt E T facts ⊥ (run E T es (start E T)) (invariant es o)
 
   -- Where no string to the tool is repeated and nothing is set, "held off" never comes.

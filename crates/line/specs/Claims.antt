@@ -92,7 +92,7 @@ module _ (E : Ends) (T : Transfer E) (facts : Facts E T) where
   ToolIs t putOut before b = ToolAs t putOut before (b .taken) (b .failed) (b .timeAsked) (b .outcome)
 
   -- The two ends after a list of allowed events.
-  pub record Agrees (r : Run E) : Type 0 where
+  pub record EndsAgree (r : Run E) : Type 0 where
     -- "After every list the tool waits or has ended as the book has"
     pub tool : ToolIs (r .system .tool) (r .system .putOut) (r .putOutBefore) (r .book)
     -- the unit by the last number that it sent, the waits owed, and whether it has replied
@@ -107,6 +107,6 @@ module _ (E : Ends) (T : Transfer E) (facts : Facts E T) where
   -- The three claims about every list
   pub record Claims (es : List (Event E)) : Type 0 where
     pub allowed : AllAllowed E T es (start E T .system)
-        → AfterAllowed E T (run E T es (start E T)) × Agrees (run E T es (start E T))
+        → AfterAllowed E T (run E T es (start E T)) × EndsAgree (run E T es (start E T))
     pub clean : AllClean E T es (start E T .system) → AfterClean E T (run E T es (start E T))
     pub plain : AllPlain E T es (start E T .system) → AfterPlain E T (run E T es (start E T))

@@ -38,7 +38,7 @@ module _ (g : Premises) (bytes : StateBytes g) (es : List (Event packedEnds))
   claimed : AfterAllowed packedEnds (packedTransfer g bytes) after
   claimed = laws.after-allowed packedEnds (packedTransfer g bytes) (packedFacts g bytes) es o
 
-  agreed : claims.Agrees packedEnds (packedTransfer g bytes) (packedFacts g bytes) after
+  agreed : claims.EndsAgree packedEnds (packedTransfer g bytes) (packedFacts g bytes) after
   agreed = laws.agrees packedEnds (packedTransfer g bytes) (packedFacts g bytes) es o
 
   -- book, counts and queues are those of the unpacked run

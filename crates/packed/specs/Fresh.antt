@@ -14,7 +14,7 @@ use Rattle.store.specs.Check.{storeNumber}
 use Rattle.services.specs.declared.Phase.the-variants.{Granted}
 use Rattle.progress.specs.declared.Request.{Request}
 use Rattle.progress.specs.declared.Request.the-variants as requests
-use Rattle.progress.specs.State.{noName}
+use Rattle.catalog.specs.Name.{zeroName}
 use Rattle.requests.specs.Sent.{frameSent}
 use Rattle.host.specs.Calls.{unitFreshState, unitKept, unitStep, toolFreshState, toolBegin}
 use Rattle.packed.specs.Simulation.{UnitIs}
@@ -22,7 +22,7 @@ use Rattle.packed.specs.Simulation.{UnitIs}
 -- the state bytes behind a step of the unit at the frame of a fixed request
 abbrev pub behind : List ℕ → List ℕ → Request → List ℕ → List ℕ
 behind store reply request state =
-    unitKept (unitStep state store (length reply) (frameSent lab request noName 1)) state
+    unitKept (unitStep state store (length reply) (frameSent lab request zeroName 1)) state
 
 pub record FromFresh : Type 0 where
   pub begins : (state : List ℕ) (name : AnswerName) (output : List ℕ) → length state ≡ 15

@@ -2,7 +2,7 @@
 use Prim.Native.Nat.{ℕ, _+_, _-_, _*_}
 use mathlib.Core.Bool.{Bool, true, false, cond, not, _&&_, _||_}
 use lib.Dec.{eqb, leb}
-use Rattle.catalog.specs.Name.{nameNumber}
+use Rattle.catalog.specs.Name.{zeroName, nameNumber}
 use Rattle.catalog.specs.declared.AnswerName.{AnswerName}
 use Rattle.split.specs.Split.{pieceSize}
 use Rattle.split.specs.Codes.{sub}
@@ -16,13 +16,10 @@ use Rattle.progress.specs.declared.ToolState.{ToolState}
 abbrev pub heldMost : ℕ
 heldMost = 60000
 
-abbrev pub noName : AnswerName
-noName = record { trep = 0; day = 0 }
-
 -- "A fresh tool has begun nothing"
 abbrev pub freshTool : ToolState
 freshTool =
-    record { request = requests.Start; outcome = Fresh; name = noName; sendings = 0; expected = sub 0; held = 0 }
+    record { request = requests.Start; outcome = Fresh; name = zeroName; sendings = 0; expected = sub 0; held = 0 }
 
 abbrev pub isTransfer : Request → Bool
 isTransfer requests.Start = false

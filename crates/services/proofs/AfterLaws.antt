@@ -11,16 +11,16 @@ use Rattle.services.specs.declared.Phase.the-variants.{Granted, Sending}
 use Rattle.services.specs.declared.UnitState.{UnitState}
 use Rattle.services.specs.declared.Reaction.{Reaction}
 use Rattle.services.specs.declared.Reaction.the-variants.{AnswerSent}
-use Rattle.services.specs.State.{dataAt}
+use Rattle.services.specs.State.{dataLengthAt}
 use Rattle.services.specs.After.{withPhase, phaseAfter, stateAfter}
 use Rattle.services.proofs.StateLaws.{split-is}
 
 -- the phase behind an answer; n is the length of its data, t whether it is split
 module _ (name : AnswerName) (k : SubMessage) (place : Place) (n : ℕ) (t : Bool) where
-  pub after-split : n ≡ dataAt place → t ≡ isSplit n → t ≡ true → Sending name k ≡ phaseAfter name k place
+  pub after-split : n ≡ dataLengthAt place → t ≡ isSplit n → t ≡ true → Sending name k ≡ phaseAfter name k place
   after-split measured asked h = rw (split-is place n t measured asked, h)
 
-  pub after-whole : n ≡ dataAt place → t ≡ isSplit n → t ≡ false → Granted ≡ phaseAfter name k place
+  pub after-whole : n ≡ dataLengthAt place → t ≡ isSplit n → t ≡ false → Granted ≡ phaseAfter name k place
   after-whole measured asked h = rw (split-is place n t measured asked, h)
 
 -- the state behind a reaction x, which is y

@@ -25,7 +25,7 @@ use Rattle.services.specs.declared.Reaction.{Reaction}
 use Rattle.services.specs.declared.Reaction.the-variants.{Ignored, CommunicationStarted, SessionOpened, RateOffered, RateChanged}
 use Rattle.services.specs.declared.Reaction.the-variants.{UploadGranted, AnswerSent, AnswerStopped, TransferExited}
 use Rattle.services.specs.declared.Reaction.the-variants.{CommunicationStopped, Negative}
-use Rattle.services.specs.State.{inSession, isGranted, dataAt}
+use Rattle.services.specs.State.{inSession, isGranted, dataLengthAt}
 use Rattle.services.specs.Services.{onSession, onRateOffer, onRateChange, onLinkControl, onUpload, requestLength, requestName, answerFrom}
 use Rattle.services.specs.Services.{onTransfer, onExit, onStop, onCode, onSending, onAcknowledge, onData}
 
@@ -113,7 +113,7 @@ module _ (P : Reaction → Type 0) (plain : (x : Reaction) → sendsAnswer x ≡
   -- the last one again, the next one, or none
   from-sending : (phase : Phase) (sent : Place) (c : AckCode)
       → ((name : AnswerName) (last : SubMessage) → phase ≡ Sending name last → P (AnswerSent name last sent))
-      → ((name : AnswerName) (last : SubMessage) → phase ≡ Sending name last → last .0 + 1 ≤ countOf (dataAt sent) → P (AnswerSent name (nextOf last) sent))
+      → ((name : AnswerName) (last : SubMessage) → phase ≡ Sending name last → last .0 + 1 ≤ countOf (dataLengthAt sent) → P (AnswerSent name (nextOf last) sent))
       → P (onSending phase sent c)
   unfolding onSending onCode
   from-sending Closed sent c again next = negative 0x83 0x22
@@ -122,16 +122,16 @@ module _ (P : Reaction → Type 0) (plain : (x : Reaction) → sendsAnswer x ≡
   from-sending Granted sent c again next = negative 0x83 0x22
   from-sending (Sending name last) sent c again next =
       either P (sameCode c (repeatOf last)) (again name last refl)
-      (either P (sameCode c (acknowledgeOf last)) (go (leb (last .0 + 1) (countOf (dataAt sent))) refl)
+      (either P (sameCode c (acknowledgeOf last)) (go (leb (last .0 + 1) (countOf (dataLengthAt sent))) refl)
       (either P (sameCode c stopCode) (plain AnswerStopped refl) (negative 0x83 0x22)))
     where
-      go : (b : Bool) → leb (last .0 + 1) (countOf (dataAt sent)) ≡ b → P (cond b (AnswerSent name (nextOf last) sent) (Negative 0x83 0x12))
+      go : (b : Bool) → leb (last .0 + 1) (countOf (dataLengthAt sent)) ≡ b → P (cond b (AnswerSent name (nextOf last) sent) (Negative 0x83 0x12))
       go true e = next name last refl (leb-true _ _ e)
       go false e = negative 0x83 0x12
 
   pub every-service : (sent asked : Place) (u : UnitState) (d : List ℕ) → P (answerFrom (requestName d) (sub 1) asked)
       → ((name : AnswerName) (last : SubMessage) → u .phase ≡ Sending name last → P (AnswerSent name last sent))
-      → ((name : AnswerName) (last : SubMessage) → u .phase ≡ Sending name last → last .0 + 1 ≤ countOf (dataAt sent) → P (AnswerSent name (nextOf last) sent))
+      → ((name : AnswerName) (last : SubMessage) → u .phase ≡ Sending name last → last .0 + 1 ≤ countOf (dataLengthAt sent) → P (AnswerSent name (nextOf last) sent))
       → P (onData sent asked u d)
   unfolding onData
   every-service sent asked u d first again next =

@@ -22,7 +22,7 @@ use Rattle.split.specs.declared.AckCode.{AckCode}
 use Rattle.services.specs.declared.Phase.{Phase}
 use Rattle.services.specs.declared.Reaction.{Reaction}
 use Rattle.services.specs.declared.Reaction.the-variants.{AnswerSent, AnswerStopped, Negative}
-use Rattle.services.specs.State.{isGranted, dataAt}
+use Rattle.services.specs.State.{isGranted, dataLengthAt}
 use Rattle.services.specs.Services.{requestLength, requestName, nameAsked, answerFrom, onTransfer, sendNext, onCode, onSending}
 
 -- A request that is its SID alone: the comparison with the fixed string is that of the length
@@ -141,8 +141,8 @@ module _ (name : AnswerName) (last : SubMessage) (place : Place) (c a : AckCode)
           )
 
 -- The sub message behind the last one; n is the length of the data, c the count
-module _ (name : AnswerName) (last : SubMessage) (place : Place) (n c : ℕ) (measured : n ≡ dataAt place) (counted : c ≡ countOf n) where
-  count-is : countOf (dataAt place) ≡ c
+module _ (name : AnswerName) (last : SubMessage) (place : Place) (n c : ℕ) (measured : n ≡ dataLengthAt place) (counted : c ≡ countOf n) where
+  count-is : countOf (dataLengthAt place) ≡ c
   count-is = sym (counted ∙ ap countOf measured)
 
   pub next-none : c < last .0 + 1 → Negative 0x83 0x12 ≡ sendNext name last place

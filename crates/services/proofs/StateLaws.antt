@@ -11,10 +11,10 @@ use Rattle.split.specs.Split.{singleMost, isSplit, countOf}
 use Rattle.split.specs.declared.SubMessage.{SubMessage}
 use Rattle.services.specs.declared.Phase.{Phase}
 use Rattle.services.specs.declared.UnitState.{UnitState}
-use Rattle.services.specs.State.{nameSent, dataAt, sendable, phasePossible, possibleAt}
+use Rattle.services.specs.State.{nameSent, dataLengthAt, sendable, phasePossible, possibleAt}
 
 -- whether the answer at a place is split, from the code's own tests: n is the length of its data, t whether that is split
-pub split-is : (place : Place) (n : ℕ) (t : Bool) → n ≡ dataAt place → t ≡ isSplit n → isSplit (dataAt place) ≡ t
+pub split-is : (place : Place) (n : ℕ) (t : Bool) → n ≡ dataLengthAt place → t ≡ isSplit n → isSplit (dataLengthAt place) ≡ t
 split-is place n t measured asked = sym (asked ∙ ap isSplit measured)
 
 -- The returns of `sendable`, from its tests; n and t as above
@@ -23,8 +23,8 @@ module _ (place : Place) (k : SubMessage) where
   unfolding sendable
   sendable-missing z = rw (ne-eqb (place .number) 0 z)
 
-  module _ (held : place .number ≡ 0) (n : ℕ) (measured : n ≡ dataAt place) (t : Bool) (asked : t ≡ isSplit n) where
-    is-split : isSplit (dataAt place) ≡ t
+  module _ (held : place .number ≡ 0) (n : ℕ) (measured : n ≡ dataLengthAt place) (t : Bool) (asked : t ≡ isSplit n) where
+    is-split : isSplit (dataLengthAt place) ≡ t
     is-split = split-is place n t measured asked
 
     pub sendable-whole : not t ≡ true → false ≡ sendable place k
@@ -43,18 +43,18 @@ module _ (place : Place) (k : SubMessage) where
 -- what `sendable` says
 pub record Sendable (place : Place) (k : ℕ) : Type 0 where
   pub held : place .number ≡ 0
-  pub split : singleMost < dataAt place
+  pub split : singleMost < dataLengthAt place
   pub first : 1 ≤ k
-  pub last : k ≤ countOf (dataAt place)
+  pub last : k ≤ countOf (dataLengthAt place)
 
 pub sendable-says : (place : Place) (k : SubMessage) → sendable place k ≡ true → Sendable place (k .0)
 unfolding sendable
 sendable-says place k e =
     let p = and-right (eqb (place .number) 0) _ e in
-    let q = and-right (isSplit (dataAt place)) _ p in
+    let q = and-right (isSplit (dataLengthAt place)) _ p in
     record {
       held = eqb-true _ _ (and-left (eqb (place .number) 0) _ e);
-      split = ltb-true _ _ (and-left (isSplit (dataAt place)) _ p);
+      split = ltb-true _ _ (and-left (isSplit (dataLengthAt place)) _ p);
       first = leb-true _ _ (and-left (leb 1 (k .0)) _ q);
       last = leb-true _ _ (and-right (leb 1 (k .0)) _ q);
     }

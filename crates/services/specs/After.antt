@@ -13,7 +13,7 @@ use Rattle.services.specs.declared.Reaction.the-variants.{Ignored, Commu
 use Rattle.services.specs.declared.Reaction.the-variants.{RateOffered, RateChanged, UploadGranted, AnswerSent}
 use Rattle.services.specs.declared.Reaction.the-variants.{AnswerStopped, TransferExited, CommunicationStopped}
 use Rattle.services.specs.declared.Reaction.the-variants.{Negative}
-use Rattle.services.specs.State.{dataAt}
+use Rattle.services.specs.State.{dataLengthAt}
 
 abbrev pub withRate : UnitState → ℕ → ℕ → Phase → UnitState
 withRate u rate pending phase = record { kind = u .kind; rate = rate; pending = pending; phase = phase }
@@ -24,7 +24,7 @@ withPhase u phase = withRate u (u .rate) 0 phase
 
 -- "unsplit answer, granted; or sub message 1, sending"
 abbrev pub phaseAfter : AnswerName → SubMessage → Place → Phase
-phaseAfter name k place = cond (isSplit (dataAt place)) (Sending name k) Granted
+phaseAfter name k place = cond (isSplit (dataLengthAt place)) (Sending name k) Granted
 
 -- a refusal by wire code: "the phase stays"
 unfoldable pub stateAfter : UnitState → Reaction → UnitState

@@ -25,7 +25,7 @@ use Rattle.services.specs.declared.Reaction.the-variants.{SessionOpened,
 use Rattle.services.specs.declared.Reaction.the-variants.{AnswerSent, AnswerStopped, TransferExited}
 use Rattle.services.specs.declared.Reaction.the-variants.{CommunicationStopped, Negative}
 use Rattle.services.specs.declared.UnitState.{UnitState}
-use Rattle.services.specs.State.{inSession, isGranted, dataAt}
+use Rattle.services.specs.State.{inSession, isGranted, dataLengthAt}
 
 -- "10 81 | not closed | 50 81, session"
 unfoldable pub onSession : List ℕ → Reaction
@@ -107,7 +107,7 @@ onStop d = unless (eqb (length d) 1) (Negative 0x82 0x13) CommunicationStopped
 -- ".. send the next, or 12 if there is none"
 abbrev pub sendNext : AnswerName → SubMessage → Place → Reaction
 sendNext name last sent =
-    unless (leb (last .0 + 1) (countOf (dataAt sent))) (Negative 0x83 0x12)
+    unless (leb (last .0 + 1) (countOf (dataLengthAt sent))) (Negative 0x83 0x12)
     (AnswerSent name (nextOf last) sent)
 
 -- "Code (DDP_017): last sent, send it again; last sent plus 1, send the next ..; FFFF, silence, granted; any other, 22"

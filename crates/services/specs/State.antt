@@ -47,14 +47,14 @@ nameSent Granted = noAnswer
 nameSent (Sending name last) = name
 
 -- the data bytes of the answer at a place, behind 76 and TREP
-abbrev pub dataAt : Place → ℕ
-dataAt place = place .len - 2
+abbrev pub dataLengthAt : Place → ℕ
+dataLengthAt place = place .len - 2
 
 -- the answer at that place has sub message k: it is held, split, and the number is among its sub messages
 unfoldable pub sendable : Place → SubMessage → Bool
 sendable place k =
     eqb (place .number) 0
-    && (isSplit (dataAt place) && (leb 1 (k .0) && leb (k .0) (countOf (dataAt place))))
+    && (isSplit (dataLengthAt place) && (leb 1 (k .0) && leb (k .0) (countOf (dataLengthAt place))))
 
 -- "or, when sending, if the answer is not in the store, is not split, or the last number is not among its sub messages"
 unfoldable pub phasePossible : Place → Phase → Bool

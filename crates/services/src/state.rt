@@ -8,7 +8,7 @@ use octets::Place;
 use split::SubMessage;
 ghost use mathlib.Core.Path.{_≡_};
 ghost use Rattle.services.specs.State.{freshUnit, isClosed, inSession, isGranted, nameSent};
-ghost use Rattle.services.specs.State.{dataAt, sendable, phasePossible, possibleAt};
+ghost use Rattle.services.specs.State.{dataLengthAt, sendable, phasePossible, possibleAt};
 
 // A unit of this kind that was just switched on.
 pub fn fresh(kind: u8) -> UnitState
@@ -61,7 +61,7 @@ pub(crate) fn is_granted(phase: Phase) -> bool
 
 // The data bytes of the answer at this place, behind 76 and TREP.
 pub(crate) fn data_at(place: Place) -> usize
-    ensures { λ r. ⌜ r ≡ dataAt place ⌝ }
+    ensures { λ r. ⌜ r ≡ dataLengthAt place ⌝ }
 {
     let len = place.len;
     if len < 2 { 0 } else { len - 2 }

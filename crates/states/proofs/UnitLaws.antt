@@ -16,7 +16,7 @@ use Rattle.split.specs.Codes.{sub}
 use Rattle.services.specs.declared.Phase.{Phase}
 use Rattle.services.specs.declared.Phase.the-variants.{Closed, Started, Session, Granted, Sending}
 use Rattle.services.specs.declared.UnitState.{UnitState}
-use Rattle.progress.specs.State.{noName}
+use Rattle.catalog.specs.Name.{zeroName}
 use Rattle.states.specs.Packed.{phaseByte, phaseFrom, namePacked, lastPacked, packedUnit, unitName, unitLast, sendsNothing, isUnit, noUnit, unpackedUnit}
 use Rattle.states.proofs.FieldLaws.{spelled, field-two, field-back}
 
@@ -106,7 +106,7 @@ unit-back u = at (u .kind) (u .rate) (u .pending) (u .phase)
 -- Bytes that are a state are what it is packed as
 
 -- what stands for no answer
-nothing-named : (trep day : ℕ) → trep ≡ 0 → day ≡ 0 → _≡_ {A = AnswerName} noName (record { trep = trep; day = day })
+nothing-named : (trep day : ℕ) → trep ≡ 0 → day ≡ 0 → _≡_ {A = AnswerName} zeroName (record { trep = trep; day = day })
 nothing-named trep day p q = rw (p, q)
 
 -- a byte of a phase with the answer that goes with it: the phase has both back
@@ -116,7 +116,7 @@ record Again (byte : ℕ) (name : AnswerName) (last : SubMessage) : Type 0 where
   ended : lastPacked (phaseFrom byte name last) ≡ last
 
 module _ (name : AnswerName) (last : SubMessage) where
-  no-name : sendsNothing name last ≡ true → noName ≡ name
+  no-name : sendsNothing name last ≡ true → zeroName ≡ name
   no-name h =
       nothing-named (name .trep) (name .day) (eqb-true _ _ (and-left (eqb (name .trep) 0) _ h))
       (eqb-true _ _ (and-left (eqb (name .day) 0) _ (and-right (eqb (name .trep) 0) _ h)))

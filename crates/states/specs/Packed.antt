@@ -17,7 +17,7 @@ use Rattle.progress.specs.declared.Request.the-variants as requests
 use Rattle.progress.specs.declared.Outcome.{Outcome}
 use Rattle.progress.specs.declared.Outcome.the-variants.{Fresh, Waiting, Done, NoAnswer, NoRoom, Refused}
 use Rattle.progress.specs.declared.ToolState.{ToolState}
-use Rattle.progress.specs.State.{noName}
+use Rattle.catalog.specs.Name.{zeroName}
 
 -- The unit: kind, rate, pending rate (0 none), phase, TREP, day (4), last number sent (2)
 
@@ -42,10 +42,10 @@ phaseFrom byte name last =
 
 -- the answer that is sent and the last number, zero outside sending
 abbrev pub namePacked : Phase → AnswerName
-namePacked Closed = noName
-namePacked Started = noName
-namePacked Session = noName
-namePacked Granted = noName
+namePacked Closed = zeroName
+namePacked Started = zeroName
+namePacked Session = zeroName
+namePacked Granted = zeroName
 namePacked (Sending name last) = name
 
 abbrev pub lastPacked : Phase → SubMessage
@@ -156,7 +156,7 @@ isTool b =
 -- a state that is impossible: a waiting one has 1 to 3 sendings
 abbrev pub noTool : ToolState
 noTool =
-    record { request = requests.Start; outcome = Waiting; name = noName; sendings = 0; expected = sub 0; held = 0 }
+    record { request = requests.Start; outcome = Waiting; name = zeroName; sendings = 0; expected = sub 0; held = 0 }
 
 unfoldable pub unpackedTool : List ℕ → ToolState
 unpackedTool b =

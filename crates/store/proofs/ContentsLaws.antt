@@ -223,7 +223,7 @@ module _ (f : Form) (s : List ℕ) (z : storeNumber f s ≡ 0) where
         let m : ℕ = entryLength f i s in
         let first : getD (answerAt f i s) 0 0 ≡ 0x76 = sym (byte-in b m 0 s (omega (arith, k .long))) ∙ ap (λ (j : ℕ). getD s j 0) (add-zero b) ∙ k .begins in
         record {
-          given = record { bytes = bytes-part b m s bytes; day = number-fits 4 (entryStart f i) s bytes };
+          inBytes = record { bytes = bytes-part b m s bytes; day = number-fits 4 (entryStart f i) s bytes };
           number = sym (answer-named (answerAt f i s) (storedAt f i s .day) 0 (omega (arith, k .long)) first (rw (← stored-name i h) (sym (k .allowed))));
         }
 

@@ -118,7 +118,7 @@ written-form f gs rest mark behind fit =
     let w : ℕ = f .width in
     let n : ℕ = length gs in
     let t : ℕ = length (backToBack gs) in
-    let back = back-bytes gs (λ i h. fit .listed i h .given .bytes) in
+    let back = back-bytes gs (λ i h. fit .listed i h .inBytes .bytes) in
     let e : List ℕ = entriesFrom f 0 gs ++ backToBack gs in
     let fields = bytes-append (bytesOf w t) e (bytes-number w t) (bytes-append (entriesFrom f 0 gs) (backToBack gs) (entries-bytes f 0 gs) back) in
     record {

@@ -188,7 +188,7 @@ module _ (f : Form) (sized : Sized f) (gs : List Stored) (fit : Holdable f gs) (
     day-read : entryDay f i s ≡ g .day
     unfolding entryBytes
     day-read =
-        field 0 4 (entryStart f i) (g .day) [] _ refl (omega (arith, entry-size f)) refl (fit .listed i h .given .day) (omega arith) refl
+        field 0 4 (entryStart f i) (g .day) [] _ refl (omega (arith, entry-size f)) refl (fit .listed i h .inBytes .day) (omega arith) refl
 
     offset-read : entryOffset f i s ≡ offsetOf i gs
     unfolding entryBytes

@@ -86,13 +86,13 @@ startOf f k gs = entryStart f (length gs) + offsetOf k gs
 -- Which lists and buffers
 
 -- what a call can be handed: bytes, and a day of four bytes
-pub record Given (g : Stored) : Type 0 where
+pub record InBytes (g : Stored) : Type 0 where
   pub bytes : Bytes (g .answer)
   pub day : g .day < 0x100000000
 
 -- an answer that a store may hold: "each 76, listed TREP, data", and a day that is allowed
 pub record Listed (g : Stored) : Type 0 where
-  pub given : Given g
+  pub inBytes : InBytes g
   pub number : answerNumber (g .answer) (g .day) ≡ done
 
 -- a list that a store of this form may hold

@@ -9,7 +9,7 @@ use Rattle.octets.specs.Numbers.{done, notHeld, changedBy, placeBy, countedBy}
 use Rattle.octets.specs.Buffer.{partAt}
 use Rattle.octets.specs.declared.Place.{Place}
 use Rattle.octets.specs.declared.Counted.{Counted}
-use Rattle.catalog.specs.Name.{sameAnswer}
+use Rattle.catalog.specs.Name.{zeroName, sameAnswer}
 use Rattle.catalog.specs.declared.AnswerName.{AnswerName}
 use Rattle.store.specs.declared.HeldAnswer.{HeldAnswer}
 use Rattle.store.specs.declared.TwoPlaces.{TwoPlaces}
@@ -61,7 +61,7 @@ module _ (f : Form) where
   heldAnswer i s =
       record {
         number = heldNumber i s;
-        name = changedBy (heldNumber i s) (nameAt f i s) (record { trep = 0; day = 0 });
+        name = changedBy (heldNumber i s) (nameAt f i s) zeroName;
         start = changedBy (heldNumber i s) (answerStart f i s) 0;
         len = changedBy (heldNumber i s) (entryLength f i s) 0;
       }

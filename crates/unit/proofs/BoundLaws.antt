@@ -23,7 +23,7 @@ use Rattle.services.specs.declared.UnitState.{UnitState}
 use Rattle.services.specs.declared.Reaction.{Reaction}
 use Rattle.services.specs.declared.Reaction.the-variants.{Ignored, CommunicationStarted, SessionOpened, RateOffered, RateChanged, UploadGranted}
 use Rattle.services.specs.declared.Reaction.the-variants.{AnswerSent, AnswerStopped, TransferExited, CommunicationStopped, Negative}
-use Rattle.services.specs.State.{dataAt}
+use Rattle.services.specs.State.{dataLengthAt}
 use Rattle.services.specs.Services.{requestName, answerFrom}
 use Rattle.services.specs.After.{stateAfter}
 use Rattle.services.proofs.ReactionLaws.{sendsAnswer}
@@ -62,7 +62,7 @@ module _ (u : UnitState) (fits : Fits (u .phase)) where
 
   sends : (name : AnswerName) (k : SubMessage) (place : Place) → name .day < 4294967296 → k .0 < 65536 → After (AnswerSent name k place)
   unfolding stateAfter
-  sends name k place d l = go (isSplit (dataAt place))
+  sends name k place d l = go (isSplit (dataLengthAt place))
     where
       go : (t : Bool) → Fits (cond t (Sending name k) Granted)
       go true = (d, l)

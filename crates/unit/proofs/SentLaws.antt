@@ -28,7 +28,7 @@ use Rattle.services.specs.declared.UnitState.{UnitState}
 use Rattle.services.specs.declared.Reaction.{Reaction}
 use Rattle.services.specs.declared.Reaction.the-variants.{Ignored, CommunicationStarted, SessionOpened, RateOffered, RateChanged, UploadGranted}
 use Rattle.services.specs.declared.Reaction.the-variants.{AnswerSent, AnswerStopped, TransferExited, CommunicationStopped, Negative}
-use Rattle.services.specs.State.{isClosed, nameSent, dataAt, sendable, phasePossible, possibleAt}
+use Rattle.services.specs.State.{isClosed, nameSent, dataLengthAt, sendable, phasePossible, possibleAt}
 use Rattle.services.specs.Services.{requestName, nameAsked, answerFrom}
 use Rattle.services.proofs.StateLaws.{Sendable, sendable-says}
 use Rattle.services.proofs.ReactionLaws.{sendsAnswer, either, every-service}
@@ -42,7 +42,7 @@ use Rattle.unit.proofs.StoreFacts.{InStore, found-in}
 module _ (P : Reaction → Type 0) (plain : (x : Reaction) → sendsAnswer x ≡ false → P x) where
   pub every-reaction : (a : Addresses) (sent asked : Place) (u : UnitState) (b : List ℕ) → P (answerFrom (requestName (dataOf a ends.Unit b)) (sub 1) asked)
       → ((name : AnswerName) (last : SubMessage) → u .phase ≡ Sending name last → P (AnswerSent name last sent))
-      → ((name : AnswerName) (last : SubMessage) → u .phase ≡ Sending name last → last .0 + 1 ≤ countOf (dataAt sent) → P (AnswerSent name (nextOf last) sent))
+      → ((name : AnswerName) (last : SubMessage) → u .phase ≡ Sending name last → last .0 + 1 ≤ countOf (dataLengthAt sent) → P (AnswerSent name (nextOf last) sent))
       → P (reactionAt a sent asked u b)
   unfolding reactionAt
   every-reaction a sent asked u b first again next =
@@ -104,13 +104,13 @@ module _ (s : List ℕ) where
     sent-in : InStore s (placeSent s (u .phase) .start) (placeSent s (u .phase) .len)
     sent-in = found-in s (nameSent (u .phase)) (sendable-now .held)
 
-    sent-piece : (k : SubMessage) → 1 ≤ k .0 → k .0 ≤ countOf (dataAt (placeSent s (u .phase))) → pieceSent s (AnswerSent name k (placeSent s (u .phase))) ≡ 0
+    sent-piece : (k : SubMessage) → 1 ≤ k .0 → k .0 ≤ countOf (dataLengthAt (placeSent s (u .phase))) → pieceSent s (AnswerSent name k (placeSent s (u .phase))) ≡ 0
     unfolding pieceSent
     sent-piece k f l = piece-in (placeSent s (u .phase) .start) (placeSent s (u .phase) .len) (k .0) sent-in f l
 
     -- a number among the sub messages goes on without wrapping
-    next-is : last .0 + 1 ≤ countOf (dataAt (placeSent s (u .phase))) → nextOf last .0 ≡ last .0 + 1
-    next-is l = omega (arith, count-most (dataAt (placeSent s (u .phase))) (data-most sent-in))
+    next-is : last .0 + 1 ≤ countOf (dataLengthAt (placeSent s (u .phase))) → nextOf last .0 ≡ last .0 + 1
+    next-is l = omega (arith, count-most (dataLengthAt (placeSent s (u .phase))) (data-most sent-in))
 
   -- whatever a unit in a possible state sends is there
   pub sends-what-is : (a : Addresses) (u : UnitState) (b : List ℕ) → possible s u ≡ true → pieceSent s (reactionTo a s u b) ≡ 0
