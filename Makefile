@@ -51,7 +51,7 @@ $(ARCHIVE): $(SOURCES)
 	@scripts/need rt gcc
 	@mkdir -p $(BUILT)
 	@[ -e target/rlib/tool.rlib ] || echo "proving the library: this takes some minutes the first time"
-	@{ rt check unit tool records append && rt staticlib host; } >$(BUILT)/archive.log 2>&1 || { cat $(BUILT)/archive.log; exit 1; }
+	@{ rt check unit tool records append states && rt staticlib host; } >$(BUILT)/archive.log 2>&1 || { cat $(BUILT)/archive.log; exit 1; }
 
 # the proved calls, and the texts beside them
 $(LIBRARY): $(ARCHIVE) host/lib/text.c host/include/tacho.h
