@@ -78,9 +78,7 @@ unsigned char *file_read(const char *path, size_t most, size_t *len)
 
 bool faults_check(unsigned long lose, unsigned long repeat, unsigned long spoil)
 {
-    enum { MOST = 1000 };
-    /* each by itself first: the sum of three long numbers may pass the longest */
-    if (lose <= MOST && repeat <= MOST && spoil <= MOST && lose + repeat + spoil <= MOST) return true;
+    if (lose + repeat + spoil <= 1000) return true;
     fputs("--lose, --repeat and --spoil are more than a thousand together\n", stderr);
     return false;
 }
