@@ -24,7 +24,7 @@ use Rattle.line.specs.Line.{toolEnd, spoiled, Event, arrivesAtUnit, arrivesAtTo
 use Rattle.line.specs.Book as books
 use Rattle.line.specs.Book.{Run, run, start}
 use Rattle.download.specs.CableEnds.{UnitGiven, cableEnds, toolBegun, refused}
-use Rattle.download.specs.TradeCases.{store12}
+use Rattle.store.specs.Claims.{store12}
 use Rattle.download.proofs.Runs.{calls}
 
 abbrev interface : AnswerName

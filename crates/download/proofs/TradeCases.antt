@@ -20,6 +20,7 @@ use Rattle.store.specs.Layout.{narrow}
 use Rattle.store.specs.Read.{lookupNumber, lookupPlace, lookupPart}
 use Rattle.store.proofs.ReadLaws.{number-of-place}
 use Rattle.store.specs.Answer.{answerNumber}
+use Rattle.store.specs.Claims.{store12}
 use Rattle.append.specs.Append.{roomNumber, appendNumber, withAnswer, appendOut}
 use Rattle.services.specs.declared.UnitState.{UnitState}
 use Rattle.services.specs.declared.Phase.the-variants.{Started, Session, Granted, Sending}
@@ -32,7 +33,7 @@ use Rattle.services.specs.Services.{onData}
 use Rattle.unit.specs.Call.{reactionTo, replyData, replyTo, unitReply}
 use Rattle.progress.specs.declared.Request.the-variants as requests
 use Rattle.requests.specs.Sent.{transferRequest, acknowledgement, transferData, frameSent}
-use Rattle.download.specs.TradeCases.{Called, Asked, lens, store12, TradeCases}
+use Rattle.download.specs.TradeCases.{Called, Asked, lens, TradeCases}
 use Rattle.download.proofs.Runs.{lookups, calls}
 use Rattle.download.proofs.StoreFacts.{held-place}
 use Rattle.download.proofs.FrameFacts.{asked-some, asked-most, asked-good}

@@ -16,6 +16,7 @@ use Rattle.split.specs.Join.{framesOf}
 use Rattle.store.specs.Layout.{narrow}
 use Rattle.store.specs.Check.{storeNumber}
 use Rattle.store.specs.Read.{lookupNumber, lookupPart}
+use Rattle.store.specs.Claims.{store12}
 use Rattle.append.specs.Append.{appendOut}
 use Rattle.services.specs.declared.UnitState.{UnitState}
 use Rattle.services.specs.declared.Phase.the-variants.{Started, Session, Granted, Sending}
@@ -40,10 +41,6 @@ pub record Asked (u : UnitState) (name : AnswerName) : Type 0 where
 -- the LEN of an answer's frames
 abbrev pub lens : ℕ → List ℕ → List ℕ
 lens trep d = map (λ (f : List ℕ). getD f 3 0) (framesOf lab trep d)
-
-abbrev pub store12 : List ℕ
-store12 =
-    0x00 ∷ 0x01 ∷ 0x00 ∷ 0x04 ∷ 0x00 ∷ 0x00 ∷ 0x00 ∷ 0x00 ∷ 0x00 ∷ 0x00 ∷ 0x00 ∷ 0x04 ∷ 0x76 ∷ 0x00 ∷ 0x02 ∷ 0x02 ∷ []
 
 pub record TradeCases : Type 0 where
   -- W1: 80 EE F0 02 10 81 F1, started

@@ -103,11 +103,6 @@ put-put h v w o m =
     rw (r, take-at (take h o ++ v) (drop (h + length v) o) (h + length v) p)
     (ap (λ (l : List ℕ). l ++ drop (h + length (v ++ w)) o) (append-assoc (take h o) v w))
 
--- nothing put changes nothing
-pub put-none : (h : ℕ) (o : List ℕ) → o ≡ put h [] o
-unfolding put
-put-none h o = let z : h + 0 ≡ h = omega arith in rw (z, append-nil) (sym (take-append-drop h o))
-
 -- what was put at the front is its front
 pub take-front : (at : ℕ) (p o : List ℕ) → length p ≡ at → take at (front p o) ≡ p
 unfolding front

@@ -20,9 +20,6 @@ module _ {A : Type 0} where
   pub changed : (number : ℕ) (x new old : A) → 0 ≡ number → x ≡ new → x ≡ changedBy number new old
   changed number x new old e q = rw (← e) q
 
-  pub changed-is : (number : ℕ) (new old : A) → number ≡ 0 → changedBy number new old ≡ new
-  changed-is number new old n = rw n
-
 -- the results, field by field
 pub written-is : (k n number m : ℕ) → k ≡ number → n ≡ changedBy number m 0 → _≡_ {A = Written} (record { number = k; len = n }) (writtenBy number m)
 written-is k n number m e q = cc

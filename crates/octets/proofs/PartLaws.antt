@@ -87,19 +87,8 @@ numbers-put w v at n m s f g h =
 
 -- Fronts
 
--- a front of what already stands there changes nothing
-pub front-same : (at : ℕ) (s : List ℕ) → at ≤ length s → s ≡ front (take at s) s
-unfolding front
-front-same at s h = rw (length-take-le at s h) (sym (take-append-drop at s))
-
--- a field written behind a front, and bytes behind it that stay
+-- bytes behind a front that stay
 module _ (p o : List ℕ) where
-  pub number-behind : (w at n : ℕ) → fieldWidth w ≡ true → length p ≡ at → at + w ≤ length o → withNumber w at n (front p o) ≡ front (p ++ bytesOf w n) o
-  unfolding withNumber
-  number-behind w at n f e h =
-      let l : length (front p o) ≡ length o = length-front p o (omega arith) in
-      rw (f, l, le-leb (at + w) (length o) h) (put-front at p (bytesOf w n) o e)
-
   pub front-kept : (at k : ℕ) → length p ≡ at → at + k ≤ length o → front p o ≡ front (p ++ partAt at k o) o
   unfolding front
   front-kept at k e h =

@@ -37,16 +37,3 @@ module _ (f : Form) where
   -- an entry below n lies before the n-th
   pub entry-below : (i n : ℕ) → i < n → entryStart f i + entrySize f ≤ entryStart f n
   entry-below i n h = omega (arith, entries-next i, entries-within (i + 1) n (omega arith))
-
--- the narrow form, in numbers
-pub narrow-start : (i : ℕ) → entryStart narrow i ≡ 4 + 8 * i
-unfolding headerSize entrySize entriesSize
-narrow-start i = refl
-
-pub narrow-entry : entrySize narrow ≡ 8
-unfolding entrySize
-narrow-entry = refl
-
-pub narrow-header : headerSize narrow ≡ 4
-unfolding headerSize
-narrow-header = refl

@@ -46,9 +46,6 @@ module _ (f : Form) (name : AnswerName) (s : List ℕ) where
   pub held-is : HeldAs f name s → isHeld f name s ≡ true
   held-is h = lt-ltb (position f name s) (answers f s) (held-position h)
 
-  pub is-held : isHeld f name s ≡ true → HeldAs f name s
-  is-held h = position-held (ltb-true _ _ h)
-
   pub missing-not : Missing f name s → isHeld f name s ≡ false
   missing-not h = le-ltb (position f name s) (answers f s) (missing-position h)
 

@@ -198,11 +198,6 @@ module _ (f : Form) where
         let n = unless-fails (isHeld f name s) 6 0 (λ z. omega arith) (o .rest) in
         record { first = o .first; rest = not-held f name s n }
 
-    -- an unbroken store gives 0 or 6
-    pub lookup-either : storeNumber f s ≡ 0 → (lookupNumber f name s ≡ 0) ⊎ (lookupNumber f name s ≡ 6)
-    unfolding lookupNumber
-    lookup-either z = rw z (unless-either (isHeld f name s) 6 0 (inl refl))
-
     -- refused, the part is empty
     pub lookup-empty : (lookupNumber f name s ≡ 0 → ⊥) → lookupPart f name s ≡ []
     unfolding lookupPart lookupPlace
@@ -240,13 +235,6 @@ module _ (f : Form) where
         most = rw q (answer-most s z p h);
         begins = rw q (rw n at (answer-begins s z p h));
       }
-
-  module _ (s : List ℕ) (zero : storeNumber f s ≡ 0) (i : ℕ) (below : i < answers f s) where
-    pub lookup-of : lookupPart f (nameAt f i s) s ≡ answerAt f i s
-    lookup-of =
-        let e : position f (nameAt f i s) s ≡ i = position-of s zero i below in
-        let l : position f (nameAt f i s) s < answers f s = omega arith in
-        found (nameAt f i s) s (lookup-zero (nameAt f i s) s zero l) .part ∙ ap (λ (m : ℕ). answerAt f m s) e
 
   -- the stream of an unbroken store
   pub stream-part : (s : List ℕ) → storeNumber f s ≡ 0 → streamPart f s ≡ streamOf f s

@@ -99,16 +99,20 @@ module _ (f : Form) where
 
 -- Document 01's own numbers
 
+-- W12's store: header, one entry, its answer
+abbrev pub store12 : List ℕ
+store12 =
+    0x00 ∷ 0x01 ∷ 0x00 ∷ 0x04
+    ∷ 0x00 ∷ 0x00 ∷ 0x00 ∷ 0x00 ∷ 0x00 ∷ 0x00 ∷ 0x00 ∷ 0x04
+    ∷ 0x76 ∷ 0x00 ∷ 0x02 ∷ 0x02 ∷ []
+
 pub record NarrowClaims : Type 0 where
   -- the store of no answers is four zero bytes: with any bytes behind them they are unbroken and hold nothing
   pub empty : storeOf narrow [] ≡ 0 ∷ 0 ∷ 0 ∷ 0 ∷ []
   pub emptyUnbroken : (rest : List ℕ) → storeNumber narrow (0 ∷ 0 ∷ 0 ∷ 0 ∷ rest) ≡ done
   pub emptyContents : (rest : List ℕ) → contents narrow (0 ∷ 0 ∷ 0 ∷ 0 ∷ rest) ≡ []
   -- "store with 02 02 under TREP 00" (W12)
-  pub w12 : storeOf narrow (record { answer = 0x76 ∷ 0x00 ∷ 0x02 ∷ 0x02 ∷ []; day = 0 } ∷ [])
-      ≡ 0x00 ∷ 0x01 ∷ 0x00 ∷ 0x04
-      ∷ 0x00 ∷ 0x00 ∷ 0x00 ∷ 0x00 ∷ 0x00 ∷ 0x00 ∷ 0x00 ∷ 0x04
-      ∷ 0x76 ∷ 0x00 ∷ 0x02 ∷ 0x02 ∷ []
+  pub w12 : storeOf narrow (record { answer = 0x76 ∷ 0x00 ∷ 0x02 ∷ 0x02 ∷ []; day = 0 } ∷ []) ≡ store12
 
 pub record StoreClaims : Type 0 where
   pub numbers : (f : Form) → NumberClaims f
