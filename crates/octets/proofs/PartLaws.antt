@@ -6,11 +6,11 @@ use mathlib.Core.Path.{_≡_, sym, ap, _∙_}
 use native.Mathlib.Omega.{arith}
 use native.Mathlib.Decide.{decLt}
 use lib.ListN.{List·getD-eq-default, length, getD, take, drop, length-append, length-take, length-drop, take-append-drop}
-use lib.Seq.{take-add, take-append-le, drop-append-le, drop-drop, take-at, drop-at, length-take-le, getD-take, getD-drop}
+use lib.Seq.{take-add, take-append-le, drop-append-le, drop-drop, take-at, drop-at, getD-take, getD-drop}
 use borrow.Author.Tests.{le-leb}
 use Rattle.octets.specs.Buffer.{Bytes, partAt, front, put}
 use Rattle.octets.specs.BigEndian.{numberOf, bytesOf, fieldWidth, numberAt, withNumber}
-use Rattle.octets.proofs.BufferLaws.{length-front, length-part, length-put, put-front, put-put}
+use Rattle.octets.proofs.BufferLaws.{length-part, length-put, put-put}
 use Rattle.octets.proofs.NumberLaws.{length-bytes, number-of-bytes, bytes-of-number}
 
 -- Parts

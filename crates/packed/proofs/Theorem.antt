@@ -14,7 +14,6 @@ use Rattle.line.proofs.Laws as laws
 use Rattle.line.proofs.Clean as cleanLaws
 use Rattle.download.specs.CableEnds.{ToolRoom, cableEnds}
 use Rattle.download.specs.Demand.{Premises, transfer, Agrees, AgreesClean}
-use Rattle.download.proofs.FrameFacts as frames
 use Rattle.download.proofs.UnitFacts as units
 use Rattle.download.proofs.ToolFacts as tools
 use Rattle.download.proofs.Theorem as theorem

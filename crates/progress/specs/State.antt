@@ -3,7 +3,6 @@ use Prim.Native.Nat.{ℕ, _+_, _-_, _*_}
 use mathlib.Core.Bool.{Bool, true, false, cond, not, _&&_, _||_}
 use lib.Dec.{eqb, leb}
 use Rattle.catalog.specs.Name.{zeroName, nameNumber}
-use Rattle.catalog.specs.declared.AnswerName.{AnswerName}
 use Rattle.split.specs.Split.{pieceSize}
 use Rattle.split.specs.Codes.{sub}
 use Rattle.progress.specs.declared.Request.{Request}

@@ -1,6 +1,6 @@
 -- What follows from an event, by what it means: the next state, the frame that goes out and the room.
 use Prim.Native.Nat.{ℕ, _+_}
-use mathlib.Core.Bool.{Bool, true, false, cond}
+use mathlib.Core.Bool.{cond}
 use mathlib.Core.List.{List, []}
 use lib.Dec.{leb}
 use Rattle.octets.specs.Buffer.{put}
@@ -8,8 +8,7 @@ use Rattle.frame.specs.declared.Addresses.{Addresses}
 use Rattle.frame.specs.declared.End.the-variants as ends
 use Rattle.frame.specs.Frame.{frameOf}
 use Rattle.split.specs.Codes.{sub, stopCode}
-use Rattle.progress.specs.declared.Outcome.{Outcome}
-use Rattle.progress.specs.declared.Outcome.the-variants.{Waiting, Done, NoAnswer, NoRoom, Refused}
+use Rattle.progress.specs.declared.Outcome.the-variants.{Done, NoRoom, Refused}
 use Rattle.progress.specs.declared.ToolState.{ToolState}
 use Rattle.arrival.specs.declared.Meaning.{Meaning}
 use Rattle.arrival.specs.declared.Meaning.the-variants.{Ignored, FailedWait, Confirmed, WholeAnswer, SubMessageTaken}
