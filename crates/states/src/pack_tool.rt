@@ -123,7 +123,7 @@ pub fn pack(state: ToolState) -> [u8; SIZE]
     ]
 }
 
-pub fn is_state(bytes: &[u8]) -> bool
+pub(crate) fn is_state(bytes: &[u8]) -> bool
     ensures { λ r. ⌜ r ≡ isTool (now (bytes .entry)) ⌝ }
 {
     if bytes.len() != SIZE {

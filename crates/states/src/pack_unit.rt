@@ -90,7 +90,7 @@ pub fn pack(state: UnitState) -> [u8; SIZE]
     ]
 }
 
-pub fn is_state(bytes: &[u8]) -> bool
+pub(crate) fn is_state(bytes: &[u8]) -> bool
     ensures { λ r. ⌜ r ≡ isUnit (now (bytes .entry)) ⌝ }
 {
     if bytes.len() != SIZE {

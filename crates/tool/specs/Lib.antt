@@ -1,3 +1,3 @@
--- Document 01, The tool: what it sends, what follows from an event, and its calls.
+-- Document 01, The tool: what follows from an event, and its calls.
 pub mod After
 pub mod Call
