@@ -11,12 +11,13 @@ use lib.Seq.{slice, take-all, take-take, take-append-le, drop-drop, take-at, dro
 use borrow.Author.Tests.{lt-ltb, le-ltb, le-leb, lt-leb, ne-eqb, leb-true, ltb-false, not-true}
 use Rattle.octets.specs.Numbers.{changedBy}
 use Rattle.octets.specs.Buffer.{partAt, front, put, copied, moved, shifted}
-use Rattle.octets.specs.BigEndian.{bytesOf, withNumber}
+use Rattle.fields.specs.BigEndian.{bytesOf, withNumber}
 use Rattle.octets.proofs.BufferLaws.{length-part, length-front, length-put, put-front, put-put, lent-copy, shifted-fits}
 use Rattle.octets.proofs.CallLaws.{changed-by}
-use Rattle.octets.proofs.NumberLaws.{length-bytes}
+use Rattle.fields.proofs.NumberLaws.{length-bytes}
 use Rattle.octets.proofs.OrderLaws.{unless-is, or-zero}
-use Rattle.octets.proofs.PartLaws.{part-left, part-take, number-put, numbers-put, front-kept}
+use Rattle.octets.proofs.PartLaws.{part-left, part-take, front-kept}
+use Rattle.fields.proofs.FieldLaws.{number-put, numbers-put}
 use Rattle.store.specs.Layout.{Form, Sized, headerSize, entrySize, entriesSize, answers, streamLength, streamStart, storeLength, streamOf}
 use Rattle.store.specs.Check.{storeNumber}
 use Rattle.store.specs.Read.{position, isHeld, lookupNumber, lookupPlace, lookupBoth}

@@ -5,7 +5,7 @@ use mathlib.Core.Logic.{inr}
 use mathlib.Core.Path.{_≡_, refl, sym, ap, _∙_}
 use native.Mathlib.Omega.{arith}
 use lib.ListN.{length, replicate, length-append}
-use Rattle.octets.specs.BigEndian.{numberAt}
+use Rattle.fields.specs.BigEndian.{numberAt}
 use Rattle.octets.specs.Buffer.{front}
 use Rattle.octets.specs.Search.{firstFrom}
 use Rattle.catalog.specs.Table.{listed, knownTo, isActivities}

@@ -8,7 +8,7 @@ use native.Mathlib.Decide.{decLt}
 use lib.ListN.{length, getD, drop, length-append}
 use lib.Seq.{getD-append-add}
 use Rattle.octets.specs.Buffer.{front}
-use Rattle.octets.specs.BigEndian.{bytesOf}
+use Rattle.fields.specs.BigEndian.{bytesOf}
 use Rattle.octets.proofs.PartLaws.{bytes-part, bytes-drop}
 use Rattle.catalog.specs.declared.AnswerName.{AnswerName}
 use Rattle.store.specs.Layout.{Form, Sized, entrySize, answers, streamLength, storeLength}

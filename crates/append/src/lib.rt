@@ -14,7 +14,7 @@ ghost use mathlib.Core.Path.{_≡_};
 ghost use mathlib.Core.List.{_++_};
 ghost use Prim.Native.Nat.{_+_, _≤_, _<_};
 ghost use lib.ListN.{length};
-ghost use Rattle.octets.specs.BigEndian.{bytesOf};
+ghost use Rattle.fields.specs.BigEndian.{bytesOf};
 ghost use Rattle.octets.specs.Buffer.{front, put};
 ghost use Rattle.store.specs.Layout.{narrow, headerSize, entrySize, answers, streamLength, storeLength};
 ghost use Rattle.append.specs.Append.{roomNumber, appendNumber, withAnswer, appendResult, appendOut};
@@ -41,7 +41,7 @@ fn append_number(store: &[u8], answer: &[u8], day: u32) -> u8
     ensures { λ r. ⌜ r ≡ appendNumber narrow (now (answer .entry)) day (now (store .entry)) ⌝ }
 {
     let name = AnswerName {
-        trep: octets::big_endian::byte_at(answer, 1),
+        trep: octets::byte::byte_at(answer, 1),
         day,
     };
     let found = store::read::locate_both(store, name, NO_ANSWER);
@@ -66,8 +66,8 @@ fn write_header(store: &mut [u8], count: u32, stream: u32)
         ≡ put (length (narrow .mark)) (bytesOf (narrow .width) count ++ bytesOf (narrow .width) stream)
         (now (store .entry)) ⌝ }
 {
-    octets::big_endian::write_number(store, 0, FIELD, count);
-    octets::big_endian::write_number(store, FIELD, FIELD, stream);
+    fields::big_endian::write_number(store, 0, FIELD, count);
+    fields::big_endian::write_number(store, FIELD, FIELD, stream);
 }
 
 fn write_entry(store: &mut [u8], at: usize, day: u32, offset: u32, len: u32)
@@ -76,9 +76,9 @@ fn write_entry(store: &mut [u8], at: usize, day: u32, offset: u32, len: u32)
         ≡ put at (bytesOf 4 day ++ (bytesOf (narrow .width) offset ++ bytesOf (narrow .width) len))
         (now (store .entry)) ⌝ }
 {
-    octets::big_endian::write_number(store, at, DAY, day);
-    octets::big_endian::write_number(store, at + DAY, FIELD, offset);
-    octets::big_endian::write_number(store, at + DAY + FIELD, FIELD, len);
+    fields::big_endian::write_number(store, at, DAY, day);
+    fields::big_endian::write_number(store, at + DAY, FIELD, offset);
+    fields::big_endian::write_number(store, at + DAY + FIELD, FIELD, len);
 }
 
 // The stream moves up by one entry, once; then header, the new entry and the answer behind the stream are written.

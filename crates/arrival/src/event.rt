@@ -71,7 +71,7 @@ fn data_meaning(
 {
     let request = state.request;
     if is_refusal(state, data) {
-        return refusal_meaning(octets::big_endian::byte_at(data, 2));
+        return refusal_meaning(octets::byte::byte_at(data, 2));
     }
     if progress::state::is_transfer(request) {
         return meaning_of(received, crate::room::fits_in(state, new, room_len));

@@ -11,7 +11,7 @@ use lib.Seq.{take-add, take-all, length-take-le}
 use borrow.Author.Tests.{ltb-true, ltb-false, eqb-true, eqb-false}
 use Rattle.octets.proofs.BufferLaws as buffers
 use Rattle.octets.specs.Buffer.{sameBytes}
-use Rattle.octets.specs.BigEndian.{bytesOf, numberAt}
+use Rattle.fields.specs.BigEndian.{bytesOf, numberAt}
 use Rattle.frame.specs.declared.Addresses.{Addresses}
 use Rattle.frame.specs.declared.End.{End}
 use Rattle.frame.specs.declared.End.the-variants as ends

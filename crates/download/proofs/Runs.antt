@@ -1,5 +1,5 @@
 -- What concrete stores and runs compute with: to unfold one of these two is to unfold every definition that its line names.
-use Rattle.octets.specs.BigEndian.{numberAt}
+use Rattle.fields.specs.BigEndian.{numberAt}
 use Rattle.octets.specs.Buffer.{front, put}
 use Rattle.frame.specs.Frame.{closed, frameOf, countRight, startRight, addressed, checksumRight, judged, dataPlace, dataOf}
 use Rattle.catalog.specs.Table.{knownTo, listed, isActivities}

@@ -10,7 +10,7 @@ use lib.ListN.{length}
 use borrow.Author.Tests.{eq-eqb, ne-eqb, eqb-true, le-leb, lt-leb}
 use Rattle.octets.proofs.Tests.{and-left, and-right}
 use Rattle.octets.specs.Order.{unless}
-use Rattle.octets.specs.BigEndian.{bytesOf, numberAt}
+use Rattle.fields.specs.BigEndian.{bytesOf, numberAt}
 use Rattle.octets.specs.declared.Place.{Place}
 use Rattle.frame.specs.declared.Addresses.{Addresses}
 use Rattle.frame.specs.declared.End.the-variants as ends

@@ -10,7 +10,7 @@ use lib.ListN.{length, drop, length-append}
 use borrow.Author.Tests.{eq-eqb, ne-eqb, le-leb, lt-leb, lt-ltb, le-ltb, ltb-true, ltb-false, not-true}
 use Rattle.octets.proofs.Tests.{and-false}
 use Rattle.octets.specs.Buffer.{front, put}
-use Rattle.octets.specs.BigEndian.{numberAt}
+use Rattle.fields.specs.BigEndian.{numberAt}
 use Rattle.octets.proofs.Tests.{and-false}
 use Rattle.octets.proofs.BufferLaws.{length-front, put-front}
 use Rattle.frame.specs.declared.Addresses.{Addresses}

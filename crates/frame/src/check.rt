@@ -52,7 +52,7 @@ fn count_right(frame: &[u8]) -> bool
     if len == 0 {
         return false;
     }
-    frame.len() == octets::big_endian::usize_of(len) + 5
+    frame.len() == octets::byte::usize_of(len) + 5
 }
 
 fn start_right(frame: &[u8], end: End) -> bool
@@ -126,7 +126,7 @@ pub fn locate(frame: &[u8], end: End) -> Place
     if number != 0 {
         return octets::refused_place(number);
     }
-    if octets::big_endian::byte_at(frame, 0) == WITHOUT_LEN {
+    if octets::byte::byte_at(frame, 0) == WITHOUT_LEN {
         return Place {
             number: 0,
             start: 3,
@@ -136,7 +136,7 @@ pub fn locate(frame: &[u8], end: End) -> Place
     Place {
         number: 0,
         start: 4,
-        len: octets::big_endian::usize_of(octets::big_endian::byte_at(frame, 3)),
+        len: octets::byte::usize_of(octets::byte::byte_at(frame, 3)),
     }
 }
 

@@ -22,5 +22,5 @@ pub fn frame_length(received: &[u8]) -> usize
     if received.len() < 4 {
         return 0;
     }
-    octets::big_endian::usize_of(received[3]) + 5
+    octets::byte::usize_of(received[3]) + 5
 }

@@ -2,7 +2,6 @@
 pub mod Tests
 pub mod SumLaws
 pub mod BufferLaws
-pub mod NumberLaws
 pub mod PartLaws
 pub mod OrderLaws
 pub mod CallLaws

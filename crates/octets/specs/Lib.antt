@@ -3,6 +3,5 @@ pub mod Order
 pub mod Numbers
 pub mod Sum
 pub mod Buffer
-pub mod BigEndian
 pub mod Search
 pub mod Values

@@ -1,7 +1,7 @@
-// Bytes: checksum, big-endian numbers, parts of slices, copying and shifting in lent buffers.
+// Bytes: checksum, parts of slices, copying and shifting in lent buffers.
 // Also the house numbers of document 01 and the results that carry them.
-pub mod big_endian;
 pub mod buffer;
+pub mod byte;
 pub mod numbers;
 pub mod sum;
 pub mod wire;

@@ -8,7 +8,7 @@ use lib.Dec.{eqb}
 use lib.ListN.{length, getD}
 use Rattle.octets.specs.Numbers.{changedBy}
 use Rattle.octets.specs.Buffer.{Bytes, front}
-use Rattle.octets.proofs.NumberLaws.{number-fits}
+use Rattle.fields.proofs.NumberLaws.{number-fits}
 use Rattle.frame.specs.Frame.{lab}
 use Rattle.catalog.specs.declared.AnswerName.{AnswerName}
 use Rattle.split.specs.declared.SubMessage.{SubMessage}

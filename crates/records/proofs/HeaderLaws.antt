@@ -9,10 +9,10 @@ use lib.Dec.{ltb}
 use lib.ListN.{length, getD}
 use borrow.Author.Tests.{lt-ltb, le-ltb, le-leb, lt-leb, ltb-true, leb-true}
 use Rattle.octets.specs.Order.{unless}
-use Rattle.octets.specs.BigEndian.{numberOf}
+use Rattle.fields.specs.BigEndian.{numberOf}
 use Rattle.octets.proofs.Tests.{and-left, and-right, and-both, and-false}
 use Rattle.octets.proofs.OrderLaws.{unless-is, unless-refused}
-use Rattle.octets.proofs.NumberLaws.{read-two}
+use Rattle.fields.proofs.NumberLaws.{read-two}
 use Rattle.records.specs.Arrays.{sizeAt, countAt, lengthAt, nextAt, standsAt, arrayBy, foundAt}
 use Rattle.records.specs.declared.Array.{Array}
 

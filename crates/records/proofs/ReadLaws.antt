@@ -11,12 +11,12 @@ use lib.ListN.{length, getD, take, drop, length-drop, take-append-drop, drop-of-
 use lib.Seq.{take-add, drop-drop, drop-cons, getD-drop}
 use borrow.Author.Tests.{lt-ltb}
 use Rattle.octets.specs.Buffer.{partAt, Bytes}
-use Rattle.octets.specs.BigEndian.{numberOf, numberAt, bytesOf}
+use Rattle.fields.specs.BigEndian.{numberOf, numberAt, bytesOf}
 use Rattle.octets.specs.Values.{upTo}
 use Rattle.octets.proofs.ValueLaws.{same-values, length-values, value-at}
 use Rattle.octets.proofs.Tests.{and-left, and-right}
 use Rattle.octets.proofs.BufferLaws.{length-part}
-use Rattle.octets.proofs.NumberLaws.{read-two, bytes-of-number}
+use Rattle.fields.proofs.NumberLaws.{read-two, bytes-of-number}
 use Rattle.records.specs.Arrays.{kindAt, sizeAt, countAt, lengthAt, nextAt, standsAt, filledFrom, arraysFrom, behind, headerOf, arrayNumber, arrayBy}
 use Rattle.records.specs.Arrays.{recordPlace, recordOf}
 use Rattle.records.specs.Written.{RecordArray, Sound, joined, writtenArray, written, arrayRead}

@@ -10,8 +10,8 @@ use lib.ListN.{length, getD, take, drop, length-append, length-drop}
 use lib.Seq.{take-at, drop-drop, getD-drop, drop-append-add, drop-append-seam}
 use borrow.Author.Tests.{le-leb}
 use Rattle.octets.specs.Buffer.{partAt}
-use Rattle.octets.specs.BigEndian.{numberOf, bytesOf, numberAt}
-use Rattle.octets.proofs.NumberLaws.{number-of-bytes}
+use Rattle.fields.specs.BigEndian.{numberOf, bytesOf, numberAt}
+use Rattle.fields.proofs.NumberLaws.{number-of-bytes}
 use Rattle.records.specs.Arrays.{kindAt, sizeAt, countAt, lengthAt, nextAt, standsAt, filledFrom, arraysFrom, behind}
 use Rattle.records.specs.Written.{RecordArray, noRecords, Sound, AllSound, joined, writtenArray, written}
 use Rattle.records.proofs.HeaderLaws.{stands, stands-within}

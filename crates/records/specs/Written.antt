@@ -3,7 +3,7 @@ use Prim.Native.Nat.{ℕ, _<_}
 use mathlib.Core.List.{List, [], _∷_, _++_}
 use mathlib.Core.Path.{_≡_}
 use lib.ListN.{length, getD}
-use Rattle.octets.specs.BigEndian.{bytesOf}
+use Rattle.fields.specs.BigEndian.{bytesOf}
 use Rattle.octets.specs.Values.{upTo}
 use Rattle.records.specs.Arrays.{arrayCount, arrayAt, recordOf}
 

@@ -54,8 +54,8 @@ fn found_at(body: &[u8], at: usize) -> Array
     if left < 5 {
         return no_array(NOT_ARRAYS);
     }
-    let record_size = octets::big_endian::number_of_two(body[at + 1], body[at + 2]);
-    let record_count = octets::big_endian::number_of_two(body[at + 3], body[at + 4]);
+    let record_size = fields::big_endian::number_of_two(body[at + 1], body[at + 2]);
+    let record_count = fields::big_endian::number_of_two(body[at + 3], body[at + 4]);
     if record_size == 0 {
         return no_array(NOT_ARRAYS);
     }

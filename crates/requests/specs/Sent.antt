@@ -3,7 +3,7 @@ use Prim.Native.Nat.{ℕ, _-_}
 use mathlib.Core.Bool.{cond}
 use mathlib.Core.List.{List, [], _∷_}
 use lib.Dec.{eqb}
-use Rattle.octets.specs.BigEndian.{bytesOf}
+use Rattle.fields.specs.BigEndian.{bytesOf}
 use Rattle.frame.specs.declared.Addresses.{Addresses}
 use Rattle.frame.specs.declared.End.the-variants as ends
 use Rattle.frame.specs.Frame.{frameOf}

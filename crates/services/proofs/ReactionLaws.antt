@@ -7,7 +7,7 @@ use mathlib.Core.Path.{_≡_, refl}
 use lib.Dec.{eqb, leb}
 use lib.ListN.{length, getD}
 use borrow.Author.Tests.{leb-true}
-use Rattle.octets.specs.BigEndian.{numberAt}
+use Rattle.fields.specs.BigEndian.{numberAt}
 use Rattle.octets.specs.Buffer.{sameBytes}
 use Rattle.octets.specs.declared.Place.{Place}
 use Rattle.frame.specs.Messages.{uploadRequest}

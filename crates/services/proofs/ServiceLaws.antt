@@ -8,10 +8,10 @@ use lib.Dec.{eqb}
 use lib.ListN.{length, getD}
 use borrow.Author.Tests.{le-leb, lt-leb, eq-eqb, ne-eqb, not-true, not-false}
 use Rattle.octets.specs.Buffer.{sameBytes}
-use Rattle.octets.specs.BigEndian.{numberOf, numberAt}
+use Rattle.fields.specs.BigEndian.{numberOf, numberAt}
 use Rattle.octets.specs.declared.Place.{Place}
 use Rattle.octets.proofs.Tests.{flag-nt, flag-nf}
-use Rattle.octets.proofs.NumberLaws.{read-two}
+use Rattle.fields.proofs.NumberLaws.{read-two}
 use Rattle.catalog.specs.Table.{knownTo, isActivities}
 use Rattle.catalog.specs.Name.{noAnswer, dayAllowed, dayNamed}
 use Rattle.catalog.specs.declared.AnswerName.{AnswerName}

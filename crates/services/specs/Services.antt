@@ -8,7 +8,7 @@ use lib.ListN.{length, getD}
 use lib.Dec.{eqb, leb}
 use Rattle.octets.specs.Order.{unless}
 use Rattle.octets.specs.Buffer.{sameBytes}
-use Rattle.octets.specs.BigEndian.{numberAt}
+use Rattle.fields.specs.BigEndian.{numberAt}
 use Rattle.octets.specs.declared.Place.{Place}
 use Rattle.frame.specs.Messages.{uploadRequest}
 use Rattle.catalog.specs.Table.{knownTo, isActivities}

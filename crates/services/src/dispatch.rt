@@ -19,7 +19,7 @@ pub fn on_data(state: UnitState, sent: Place, asked: Place, data: &[u8]) -> Reac
     ensures { λ r. ⌜ r ≡ onData sent asked state (now («data» .entry)) ⌝ }
 {
     let phase = state.phase;
-    let sid = octets::big_endian::byte_at(data, 0);
+    let sid = octets::byte::byte_at(data, 0);
     if sid == DIAGNOSTIC_SESSION {
         return crate::session::on_session(data);
     }

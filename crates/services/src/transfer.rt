@@ -30,8 +30,8 @@ fn request_name(data: &[u8]) -> AnswerName
     ensures { λ r. ⌜ r ≡ requestName (now («data» .entry)) ⌝ }
 {
     AnswerName {
-        trep: octets::big_endian::byte_at(data, 1),
-        day: octets::big_endian::number_at(data, 2, 4),
+        trep: octets::byte::byte_at(data, 1),
+        day: fields::big_endian::number_at(data, 2, 4),
     }
 }
 
@@ -48,7 +48,7 @@ fn answer_from(name: AnswerName, message: SubMessage, place: Place) -> Reaction
 pub fn name_asked(data: &[u8]) -> AnswerName
     ensures { λ r. ⌜ r ≡ nameAsked (now («data» .entry)) ⌝ }
 {
-    if octets::big_endian::byte_at(data, 0) == TRANSFER_DATA {
+    if octets::byte::byte_at(data, 0) == TRANSFER_DATA {
         request_name(data)
     } else {
         NO_ANSWER
@@ -134,6 +134,6 @@ pub(crate) fn on_acknowledge(phase: Phase, sent: Place, data: &[u8]) -> Reaction
     on_sending(
         phase,
         sent,
-        AckCode(octets::big_endian::number_of_two(data[2], data[3])),
+        AckCode(fields::big_endian::number_of_two(data[2], data[3])),
     )
 }

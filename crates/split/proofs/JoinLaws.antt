@@ -7,7 +7,7 @@ use native.Mathlib.Omega.{arith}
 use lib.ListN.{length, take, drop, length-drop, drop-of-length-le}
 use lib.Seq.{take-all, take-nil, drop-length}
 use borrow.Author.Tests.{lt-ltb, le-ltb, le-leb, lt-leb}
-use Rattle.octets.specs.BigEndian.{numberAt}
+use Rattle.fields.specs.BigEndian.{numberAt}
 use Rattle.split.specs.Join.{isAnswer, isWhole, receivedAs, carriedBy}
 use Rattle.split.specs.declared.Received.{Received}
 use Rattle.split.specs.declared.Received.the-variants.{Whole, Full, Last, Above, Other}

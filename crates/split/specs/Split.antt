@@ -6,7 +6,7 @@ use lib.ListN.{length, take, drop}
 use lib.Dec.{ltb, leb}
 use Rattle.octets.specs.Order.{unless, orElse}
 use Rattle.octets.specs.Numbers.{done, bufferShort, overBound, noSuch, changedBy, writtenBy, placeBy, countedBy}
-use Rattle.octets.specs.BigEndian.{bytesOf}
+use Rattle.fields.specs.BigEndian.{bytesOf}
 use Rattle.octets.specs.Buffer.{front}
 use Rattle.octets.specs.declared.Written.{Written}
 use Rattle.octets.specs.declared.Place.{Place}

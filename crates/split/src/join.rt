@@ -63,7 +63,7 @@ pub fn receive(data: &[u8], trep: u8, expected: SubMessage) -> Received
     if n < 4 {
         return Received::Other;
     }
-    let k = octets::big_endian::number_at(data, 2, 2);
+    let k = fields::big_endian::number_at(data, 2, 2);
     if k < e {
         return Received::Other;
     }

@@ -7,9 +7,9 @@ use native.Mathlib.Omega.{arith}
 use lib.ListN.{length, getD, take, drop, length-drop}
 use lib.Seq.{drop-cons, take-all, getD-drop}
 use borrow.Author.Tests.{le-leb}
-use Rattle.octets.specs.BigEndian.{numberOf, bytesOf, fieldWidth, numberAt}
+use Rattle.fields.specs.BigEndian.{numberOf, bytesOf, fieldWidth, numberAt}
 use Rattle.octets.specs.Buffer.{partAt}
-use Rattle.octets.proofs.NumberLaws.{bytes-of-number, read-two}
+use Rattle.fields.proofs.NumberLaws.{bytes-of-number, read-two}
 
 -- n bytes from index i on
 abbrev pub bytesFrom : ℕ → ℕ → List ℕ → List ℕ

@@ -7,8 +7,8 @@ use native.Mathlib.Omega.{arith}
 use lib.Dec.{eqb, leb}
 use lib.ListN.{length, getD}
 use borrow.Author.Tests.{le-leb, lt-leb, eq-eqb, ne-eqb, eqb-true, leb-true}
-use Rattle.octets.specs.BigEndian.{numberOf, bytesOf, numberAt}
-use Rattle.octets.proofs.NumberLaws.{number-of-bytes}
+use Rattle.fields.specs.BigEndian.{numberOf, bytesOf, numberAt}
+use Rattle.fields.proofs.NumberLaws.{number-of-bytes}
 use Rattle.octets.proofs.Tests.{and-left, and-right}
 use Rattle.split.specs.Codes.{sub}
 use Rattle.progress.specs.declared.Request.{Request}

@@ -1,7 +1,7 @@
 // The tool's state in 15 bytes: request, outcome, wire code, TREP, day (4), sendings, expected (2), held (4).
 use catalog::AnswerName;
-use octets::big_endian::byte_at;
-use octets::big_endian::number_at;
+use fields::big_endian::number_at;
+use octets::byte::byte_at;
 use progress::Outcome;
 use progress::Request;
 use progress::ToolState;
@@ -167,7 +167,7 @@ pub(crate) fn state_in(bytes: &[u8]) -> ToolState
             day: number_at(bytes, 4, 4),
         },
         sendings: byte_at(bytes, 8),
-        expected: SubMessage(octets::big_endian::number_of_two(
+        expected: SubMessage(fields::big_endian::number_of_two(
             byte_at(bytes, 9),
             byte_at(bytes, 10),
         )),

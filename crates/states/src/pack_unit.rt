@@ -1,7 +1,7 @@
 // The unit's state in 11 bytes: kind, rate, pending rate (0 none), phase, TREP, day (4), last number sent (2).
 use catalog::AnswerName;
-use octets::big_endian::byte_at;
-use octets::big_endian::number_at;
+use fields::big_endian::number_at;
+use octets::byte::byte_at;
 use services::Phase;
 use services::UnitState;
 use split::SubMessage;
@@ -131,7 +131,7 @@ pub(crate) fn state_in(bytes: &[u8]) -> UnitState
         trep: byte_at(bytes, 4),
         day: number_at(bytes, 5, 4),
     };
-    let last = SubMessage(octets::big_endian::number_of_two(byte_at(bytes, 9), byte_at(bytes, 10)));
+    let last = SubMessage(fields::big_endian::number_of_two(byte_at(bytes, 9), byte_at(bytes, 10)));
     UnitState {
         kind: byte_at(bytes, 0),
         rate: byte_at(bytes, 1),

@@ -1,7 +1,7 @@
 // Readers of packed states: a number of the state, or NO_STATE where the bytes are no state.
 use crate::ToolReading;
 use crate::UnitReading;
-use octets::big_endian::usize_of;
+use octets::byte::usize_of;
 use progress::ToolState;
 use services::UnitState;
 ghost use mathlib.Core.Path.{_≡_};

@@ -8,11 +8,11 @@ use native.Mathlib.Numerals.{add-one}
 use lib.Dec.{eqb, leb}
 use lib.ListN.{length, getD}
 use borrow.Author.Tests.{le-leb, lt-leb, eq-eqb, ne-eqb, leb-true}
-use Rattle.octets.specs.BigEndian.{numberOf}
+use Rattle.fields.specs.BigEndian.{numberOf}
 use Rattle.octets.specs.Search.{anyOf, noneOf}
 use Rattle.octets.proofs.Tests.{and-right}
 use Rattle.octets.proofs.OrderLaws.{unless-is}
-use Rattle.octets.proofs.NumberLaws.{read-two, read-four}
+use Rattle.fields.proofs.NumberLaws.{read-two, read-four}
 use Rattle.catalog.specs.Name.{sameAnswer, nameNumber}
 use Rattle.catalog.specs.declared.AnswerName.{AnswerName}
 use Rattle.catalog.proofs.NameLaws.{other-day}

@@ -12,7 +12,7 @@ use Rattle.octets.specs.Buffer.{Bytes, partAt}
 use Rattle.octets.specs.Search.{noneOf}
 use Rattle.octets.proofs.Tests.{and-both}
 use Rattle.octets.proofs.BufferLaws.{length-part}
-use Rattle.octets.proofs.NumberLaws.{number-fits}
+use Rattle.fields.proofs.NumberLaws.{number-fits}
 use Rattle.octets.proofs.PartLaws.{part-in, byte-in, bytes-part}
 use Rattle.octets.proofs.SearchLaws.{none-built}
 use Rattle.octets.proofs.ValueLaws.{same-values, length-values, value-at, values-of}

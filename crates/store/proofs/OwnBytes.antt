@@ -7,8 +7,9 @@ use native.Mathlib.Nat.{zero-add}
 use lib.ListN.{length, getD, take}
 use lib.Seq.{take-suc, take-all, take-add}
 use Rattle.octets.specs.Buffer.{Bytes, partAt}
-use Rattle.octets.specs.BigEndian.{bytesOf}
-use Rattle.octets.proofs.PartLaws.{part-add, bytes-at}
+use Rattle.fields.specs.BigEndian.{bytesOf}
+use Rattle.octets.proofs.PartLaws.{part-add}
+use Rattle.fields.proofs.FieldLaws.{bytes-at}
 use Rattle.store.specs.Layout.{Form, Sized, headerSize, entrySize, entriesSize, entryStart, answers, streamLength, streamStart, storeLength}
 use Rattle.store.specs.Check.{storeNumber}
 use Rattle.store.specs.Contents.{Stored, nothing, backToBack, offsetOf, entryBytes, entriesFrom, storeOf, contents}

@@ -10,8 +10,9 @@ use borrow.Author.Tests.{lt-ltb, le-ltb}
 use Rattle.octets.specs.Order.{unless}
 use Rattle.octets.specs.Buffer.{Bytes, partAt}
 use Rattle.octets.proofs.SearchLaws.{first-same}
-use Rattle.octets.specs.BigEndian.{bytesOf}
-use Rattle.octets.proofs.PartLaws.{bytes-append, bytes-number}
+use Rattle.fields.specs.BigEndian.{bytesOf}
+use Rattle.octets.proofs.PartLaws.{bytes-append}
+use Rattle.fields.proofs.FieldLaws.{bytes-number}
 use Rattle.catalog.specs.declared.AnswerName.{AnswerName}
 use Rattle.store.specs.Layout.{Form, Sized, answers, answerAt, nameAt}
 use Rattle.store.specs.Check.{storeNumber}

@@ -8,9 +8,10 @@ use native.Mathlib.Nat.{zero-add}
 use lib.ListN.{length, getD, take, length-append}
 use lib.Seq.{take-append-seam, drop-append-add}
 use Rattle.octets.specs.Buffer.{partAt}
-use Rattle.octets.specs.BigEndian.{bytesOf, fieldWidth, numberAt}
-use Rattle.octets.proofs.NumberLaws.{length-bytes}
-use Rattle.octets.proofs.PartLaws.{part-here, number-in, number-here}
+use Rattle.fields.specs.BigEndian.{bytesOf, fieldWidth, numberAt}
+use Rattle.fields.proofs.NumberLaws.{length-bytes}
+use Rattle.octets.proofs.PartLaws.{part-here}
+use Rattle.fields.proofs.FieldLaws.{number-in, number-here}
 use Rattle.store.specs.Layout.{Form, Sized, headerSize, entrySize, entriesSize, entryStart, answers, streamLength, storeLength, streamOf}
 use Rattle.store.specs.Layout.{entryDay, entryOffset, entryLength}
 use Rattle.store.specs.Contents.{Stored, nothing, backToBack, offsetOf, entryBytes, entriesFrom, storeOf, Holdable}

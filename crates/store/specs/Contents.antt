@@ -7,7 +7,7 @@ use mathlib.Core.List.{List, [], _∷_, _++_}
 use mathlib.Core.Path.{_≡_}
 use lib.ListN.{length, getD, take}
 use Rattle.octets.specs.Numbers.{done}
-use Rattle.octets.specs.BigEndian.{bytesOf}
+use Rattle.fields.specs.BigEndian.{bytesOf}
 use Rattle.octets.specs.Buffer.{Bytes}
 use Rattle.octets.specs.Search.{firstOf, anyOf}
 use Rattle.octets.specs.Values.{upTo}

@@ -4,7 +4,7 @@ use mathlib.Core.Bool.{true}
 use mathlib.Core.List.{List, []}
 use mathlib.Core.Path.{_≡_}
 use lib.ListN.{length, getD}
-use Rattle.octets.specs.BigEndian.{fieldWidth, numberAt}
+use Rattle.fields.specs.BigEndian.{fieldWidth, numberAt}
 use Rattle.octets.specs.Buffer.{partAt}
 use Rattle.catalog.specs.declared.AnswerName.{AnswerName}
 

@@ -70,7 +70,7 @@ fn answer_right(store: &[u8], i: usize) -> bool
     requires { ⌜ entryStart narrow i + entrySize narrow ≤ length (now store) ⌝ }
     ensures { λ r. ⌜ r ≡ answerRight narrow i (now (store .entry)) ⌝ }
 {
-    if octets::big_endian::byte_at(store, crate::layout::answer_start(store, i)) != ANSWER {
+    if octets::byte::byte_at(store, crate::layout::answer_start(store, i)) != ANSWER {
         return false;
     }
     catalog::name_number(crate::layout::name_at(store, i)) == 0

@@ -4,7 +4,7 @@ use catalog::AnswerName;
 ghost use mathlib.Core.Path.{_≡_};
 ghost use Prim.Native.Nat.{_+_, _<_, _≤_};
 ghost use lib.ListN.{length};
-ghost use Rattle.octets.specs.BigEndian.{numberAt};
+ghost use Rattle.fields.specs.BigEndian.{numberAt};
 ghost use Rattle.catalog.specs.Name.{sameAnswer};
 ghost use Rattle.store.specs.Layout.{narrow, entrySize, entryStart, answers, streamLength, streamStart, entryDay};
 ghost use Rattle.store.specs.Layout.{entryOffset, entryLength, answerStart, nameAt};
@@ -24,7 +24,7 @@ pub const DAY: usize = 4;
 fn field(store: &[u8], at: usize) -> usize
     ensures { λ r. ⌜ (r ≡ numberAt 2 at (now (store .entry))) × (r < 4294967296) ⌝ }
 {
-    octets::big_endian::number_at(store, at, FIELD) as usize
+    fields::big_endian::number_at(store, at, FIELD) as usize
 }
 
 pub fn answers(store: &[u8]) -> usize
@@ -52,7 +52,7 @@ fn entry_day(store: &[u8], i: usize) -> u32
     ensures { λ r. ⌜ r ≡ entryDay narrow i (now (store .entry)) ⌝ }
 {
     let at = HEADER + ENTRY * i;
-    octets::big_endian::number_of_four(store[at], store[at + 1], store[at + 2], store[at + 3])
+    fields::big_endian::number_of_four(store[at], store[at + 1], store[at + 2], store[at + 3])
 }
 
 pub(crate) fn entry_offset(store: &[u8], i: usize) -> usize
@@ -60,7 +60,7 @@ pub(crate) fn entry_offset(store: &[u8], i: usize) -> usize
     ensures { λ r. ⌜ (r ≡ entryOffset narrow i (now (store .entry))) × (r < 65536) ⌝ }
 {
     let at = HEADER + ENTRY * i + DAY;
-    octets::big_endian::number_of_two(store[at], store[at + 1]) as usize
+    fields::big_endian::number_of_two(store[at], store[at + 1]) as usize
 }
 
 pub(crate) fn entry_length(store: &[u8], i: usize) -> usize
@@ -68,7 +68,7 @@ pub(crate) fn entry_length(store: &[u8], i: usize) -> usize
     ensures { λ r. ⌜ (r ≡ entryLength narrow i (now (store .entry))) × (r < 65536) ⌝ }
 {
     let at = HEADER + ENTRY * i + DAY + FIELD;
-    octets::big_endian::number_of_two(store[at], store[at + 1]) as usize
+    fields::big_endian::number_of_two(store[at], store[at + 1]) as usize
 }
 
 // Where answer `i` begins in the buffer.
@@ -85,7 +85,7 @@ pub(crate) fn name_at(store: &[u8], i: usize) -> AnswerName
     ensures { λ r. ⌜ r ≡ nameAt narrow i (now (store .entry)) ⌝ }
 {
     AnswerName {
-        trep: octets::big_endian::byte_at(store, answer_start(store, i) + 1),
+        trep: octets::byte::byte_at(store, answer_start(store, i) + 1),
         day: entry_day(store, i),
     }
 }

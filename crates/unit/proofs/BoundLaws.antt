@@ -7,7 +7,7 @@ use native.Mathlib.Omega.{arith}
 use lib.Dec.{eqb}
 use Rattle.octets.specs.Buffer.{Bytes}
 use Rattle.octets.specs.declared.Place.{Place}
-use Rattle.octets.proofs.NumberLaws.{number-fits}
+use Rattle.fields.proofs.NumberLaws.{number-fits}
 use Rattle.octets.proofs.PartLaws.{bytes-part}
 use Rattle.octets.proofs.Tests.{never}
 use Rattle.frame.specs.declared.Addresses.{Addresses}

@@ -44,7 +44,7 @@ fn answer(data: &[u8], room: &mut [u8]) {
     print::number(b"", data.len());
     print::number(
         b" data bytes: number ",
-        octets::big_endian::usize_of(counted.number),
+        octets::byte::usize_of(counted.number),
     );
     print::number(b", sub messages ", counted.count);
     let held = joined(data, room, counted.count);

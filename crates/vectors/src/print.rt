@@ -17,7 +17,7 @@ pub(crate) fn number(what: &[u8], n: usize) {
 pub(crate) fn bytes(s: &[u8]) {
     let mut i = 0;
     while i < s.len() {
-        let b = octets::big_endian::usize_of(s[i]);
+        let b = octets::byte::usize_of(s[i]);
         text(&[b' ', DIGITS[b / 16], DIGITS[b % 16]]);
         i += 1;
     }

@@ -64,11 +64,11 @@ fn judged(name: &[u8], frame: &[u8], end: End, other: End) {
     print::bytes(frame);
     print::number(
         b": at its end ",
-        octets::big_endian::usize_of(frame::check::check(frame, end)),
+        octets::byte::usize_of(frame::check::check(frame, end)),
     );
     print::number(
         b", at the other end ",
-        octets::big_endian::usize_of(frame::check::check(frame, other)),
+        octets::byte::usize_of(frame::check::check(frame, other)),
     );
 }
 
@@ -85,10 +85,7 @@ fn whole(name: &[u8], bytes: &[u8], end: End, other: End) {
     let mut out = [0u8; 260];
     judged(name, bytes, end, other);
     let written = anew(bytes, end, &mut out);
-    print::number(
-        b", written anew ",
-        octets::big_endian::usize_of(written.number),
-    );
+    print::number(b", written anew ", octets::byte::usize_of(written.number));
     print::same(octets::buffer::part(&out, crate::front(written.len)), bytes);
 }
 
@@ -116,7 +113,7 @@ fn field(rows: &[u8], at: usize) -> Place
     Place {
         number: 0,
         start: at + 1,
-        len: octets::big_endian::usize_of(rows[at]),
+        len: octets::byte::usize_of(rows[at]),
     }
 }
 

@@ -1,8 +1,8 @@
 -- Each return is a law of the field: no such field, two bytes, four bytes.
-use Rattle.octets.proofs.NumberLaws.{read-start, read-end, read-two, read-four, read-other}
+use Rattle.fields.proofs.NumberLaws.{read-start, read-end, read-two, read-four, read-other}
 use borrow.Author.Needs.{needs}
-use Rattle.octets.proofs.big_endian.number_at.Statement.{statement}
-use Rattle.octets.proofs.big_endian.number_at.Tie as tie
+use Rattle.fields.proofs.big_endian.number_at.Statement.{statement}
+use Rattle.fields.proofs.big_endian.number_at.Tie as tie
 
 ruleset all = (needs, read-start, read-end, read-two, read-four, read-other)
 

@@ -1,8 +1,8 @@
 -- A byte is read where there is one; behind the end the definition gives 0.
 use Rattle.octets.proofs.BufferLaws.{byte-behind}
 use borrow.Author.Needs.{needs}
-use Rattle.octets.proofs.big_endian.byte_at.Statement.{statement}
-use Rattle.octets.proofs.big_endian.byte_at.Tie as tie
+use Rattle.octets.proofs.byte.byte_at.Statement.{statement}
+use Rattle.octets.proofs.byte.byte_at.Tie as tie
 
 ruleset all = (needs, byte-behind)
 

@@ -1,10 +1,10 @@
 -- Two stores one behind the other are the field.
 use native.Mathlib.Omega.{arith}
 use lib.ListN.{length-set}
-use Rattle.octets.proofs.NumberLaws.{stored-two}
+use Rattle.fields.proofs.NumberLaws.{stored-two}
 use borrow.Author.Needs.{needs}
-use Rattle.octets.proofs.big_endian.write_two.Statement.{statement}
-use Rattle.octets.proofs.big_endian.write_two.Tie as tie
+use Rattle.fields.proofs.big_endian.write_two.Statement.{statement}
+use Rattle.fields.proofs.big_endian.write_two.Tie as tie
 
 ruleset all = (needs, stored-two)
 

@@ -1,10 +1,10 @@
 -- Four stores one behind the other are the field.
 use native.Mathlib.Omega.{arith}
 use lib.ListN.{length-set}
-use Rattle.octets.proofs.NumberLaws.{stored-four}
+use Rattle.fields.proofs.NumberLaws.{stored-four}
 use borrow.Author.Needs.{needs}
-use Rattle.octets.proofs.big_endian.write_four.Statement.{statement}
-use Rattle.octets.proofs.big_endian.write_four.Tie as tie
+use Rattle.fields.proofs.big_endian.write_four.Statement.{statement}
+use Rattle.fields.proofs.big_endian.write_four.Tie as tie
 
 ruleset all = (needs, stored-four)
 

@@ -9,9 +9,9 @@ use lib.ListN.{length, getD, take, drop, set, length-append, length-drop}
 use lib.Seq.{take-suc, drop-cons, getD-drop}
 use lib.Dec.{leb}
 use borrow.Author.Tests.{le-leb, lt-leb, ne-eqb, leb-true}
 use Rattle.octets.specs.Buffer.{Bytes, partAt, put}
-use Rattle.octets.specs.BigEndian.{numberFrom, numberOf, bytesOf, fieldWidth, fieldFits, numberAt, withNumber}
+use Rattle.fields.specs.BigEndian.{numberFrom, numberOf, bytesOf, fieldWidth, fieldFits, numberAt, withNumber}
 use Rattle.octets.proofs.BufferLaws.{stores-put}
 
 -- one byte more at the end
 pub number-snoc : (a : ℕ) (s : List ℕ) (x : ℕ) → numberFrom a (s ++ (x ∷ [])) ≡ numberFrom a s * 256 + x

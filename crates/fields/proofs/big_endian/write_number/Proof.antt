@@ -1,8 +1,8 @@
 -- Each return is a law of the field, as for reading.
-use Rattle.octets.proofs.NumberLaws.{write-start, write-end, write-other, write-field}
+use Rattle.fields.proofs.NumberLaws.{write-start, write-end, write-other, write-field}
 use borrow.Author.Needs.{needs}
-use Rattle.octets.proofs.big_endian.write_number.Statement.{statement}
-use Rattle.octets.proofs.big_endian.write_number.Tie as tie
+use Rattle.fields.proofs.big_endian.write_number.Statement.{statement}
+use Rattle.fields.proofs.big_endian.write_number.Tie as tie
 
 ruleset all = (needs, write-start, write-end, write-other, write-field)
 

@@ -1,0 +1,2 @@
+-- Document 01: numbers on the wire.
+pub mod BigEndian
