@@ -9,18 +9,17 @@ use lib.Dec.{eqb, leb}
 use lib.ListN.{length, getD}
 use borrow.Author.Tests.{le-leb, lt-leb, eq-eqb, ne-eqb, leb-true}
 use Rattle.fields.specs.BigEndian.{numberOf}
-use Rattle.octets.specs.Search.{anyOf, noneOf}
+use Rattle.octets.specs.Search.{firstFrom, firstOf, anyOf, noneOf}
 use Rattle.octets.proofs.Tests.{and-right}
 use Rattle.octets.proofs.OrderLaws.{unless-is}
+use Rattle.octets.proofs.SearchLaws.{none-hit, none-end}
 use Rattle.fields.proofs.NumberLaws.{read-two, read-four}
 use Rattle.catalog.specs.Name.{sameAnswer, nameNumber}
 use Rattle.catalog.specs.declared.AnswerName.{AnswerName}
 use Rattle.catalog.proofs.NameLaws.{other-day}
 use Rattle.store.specs.Layout.{Form, headerSize, entrySize, entryStart, answers, streamLength, streamStart, storeLength, entryDay, entryOffset}
 use Rattle.store.specs.Layout.{entryLength, answerStart, nameAt}
-use Rattle.store.specs.Check.{headerFits, countsFit, filledTo, placeRight, placesRight, answerRight, repeats, breaks, allKeep, storeNumber}
-use Rattle.store.specs.declared.check.Rule.{Rule}
-use Rattle.store.specs.declared.check.Rule.the-variants as rules
+use Rattle.store.specs.Check.{headerFits, countsFit, filledTo, placeRight, placesRight, answerRight, answersRight, repeats, namesDiffer, storeNumber}
 use Rattle.store.proofs.FormLaws.{entry-size, entry-below}
 
 -- the fields of an entry that lies in the buffer, from its bytes; at is where it starts
@@ -56,6 +55,10 @@ module _ (f : Form) (s : List ℕ) where
   module _ (i n : ℕ) (h : i < n) where
     pub entry-before : entryStart f n ≤ length s → entryStart f i + entrySize f ≤ length s
     entry-before l = omega (arith, entry-below f i n h)
+
+    -- the entries before it lie there too
+    pub start-in : n ≡ answers f s → streamStart f s ≤ length s → entryStart f i ≤ length s
+    start-in q l = omega (arith, entry-below f i n h, rw (← q) at l)
 
     module _ (q : n ≡ answers f s) where
       pub entry-in : streamStart f s ≤ length s → entryStart f i + entrySize f ≤ length s
@@ -158,20 +161,41 @@ module _ (f : Form) (s : List ℕ) (i start b : ℕ) (is-start : start ≡ answe
   unfolding answerRight
   answer-is name r h e q = rw (← is-start, ← first, eq-eqb b 0x76 h, ← e, q)
 
--- Whether an entry breaks a rule; r is what the code found
+-- Whether one of them fails, by the count n that the code read
 
-module _ (f : Form) (s : List ℕ) (rule : Rule) (i : ℕ) (r : Bool) where
-  pub breaks-answer : rule ≡ rules.Answer → r ≡ answerRight f i s → not r ≡ breaks f rule i s
-  unfolding breaks
-  breaks-answer is e = rw (is, e)
+module _ (f : Form) (s : List ℕ) (n : ℕ) (p : n ≡ answers f s) (r : Bool) where
+  pub names-by : r ≡ noneOf (λ i. repeats f i s) n → r ≡ namesDiffer f s
+  unfolding namesDiffer
+  names-by h = rw (← p) h
 
-  -- a name among the earlier ones
-  pub breaks-name : rule ≡ rules.Name → (name : AnswerName) → name ≡ nameAt f i s
-      → r ≡ anyOf (λ j. sameAnswer (nameAt f j s) name) i → r ≡ breaks f rule i s
-  unfolding breaks repeats
-  breaks-name is name named found = rw (is, ← named) found
+-- a name among the earlier ones; r is what the search of them gave
+module _ (f : Form) (s : List ℕ) (i : ℕ) (name : AnswerName) (is : name ≡ nameAt f i s) (r : Bool)
+    (found : r ≡ anyOf (λ j. sameAnswer (nameAt f j s) name) i) where
+  repeats-by : r ≡ repeats f i s
+  unfolding repeats
+  repeats-by = rw (← is) found
 
--- whether one of them breaks it, by the count n that the code read
-pub all-keep-by : (f : Form) (s : List ℕ) (rule : Rule) (n : ℕ) (r : Bool) → n ≡ answers f s → r ≡ noneOf (λ i. breaks f rule i s) n → r ≡ allKeep f rule s
-unfolding allKeep
-all-keep-by f s rule n r p h = rw (← p) h
+  pub repeats-is : r ≡ true → repeats f i s ≡ true
+  repeats-is h = sym repeats-by ∙ h
+
+  pub repeats-not : r ≡ false → repeats f i s ≡ false
+  repeats-not h = sym repeats-by ∙ h
+
+-- the answers in front that are right, up to i: r is what the test of the i-th gave
+pub right-by : (r : Bool) (t : Bool) → r ≡ t → r ≡ true → not t ≡ false
+right-by r t e h = rw (← e, h)
+
+module _ (f : Form) (s : List ℕ) (n i : ℕ) (p : n ≡ answers f s)
+    (whole : firstOf (λ j. not (answerRight f j s)) n ≡ firstFrom (λ j. not (answerRight f j s)) (n - i) i) where
+  module _ (more : i < n) (r : Bool) (asked : r ≡ answerRight f i s) where
+    pub answers-stopped : r ≡ false → eqb i n ≡ answersRight f s
+    unfolding answersRight
+    answers-stopped h =
+        let e : eqb i n ≡ false = ne-eqb i n (λ q. omega arith) in
+        rw (← p) (e ∙ none-hit (λ j. not (answerRight f j s)) n i whole more (rw (← asked, h)))
+
+  pub answers-through : i ≤ n → n ≤ i → eqb i n ≡ answersRight f s
+  unfolding answersRight
+  answers-through l h =
+      let e : eqb i n ≡ true = eq-eqb i n (omega arith) in
+      rw (← p) (e ∙ none-end (λ j. not (answerRight f j s)) n i whole h)

@@ -20,7 +20,7 @@ use Rattle.catalog.specs.Name.{sameAnswer}
 use Rattle.catalog.proofs.NameLaws.{same-not}
 use Rattle.catalog.specs.declared.AnswerName.{AnswerName}
 use Rattle.store.specs.Layout.{Form, answers, streamLength, streamStart, streamOf, entryStart, entryOffset, entryLength, answerStart, answerAt, nameAt}
-use Rattle.store.specs.Check.{filledTo, placeRight, placesRight, answerRight, repeats, breaks, allKeep, storeNumber}
+use Rattle.store.specs.Check.{filledTo, placeRight, placesRight, answerRight, answersRight, repeats, namesDiffer, storeNumber}
 use Rattle.store.specs.Read.{position}
 use Rattle.store.specs.Contents.{Stored, nameFor, nothing, backToBack, offsetOf, storedAt, contents, Listed, Holdable}
 use Rattle.store.proofs.AnswerLaws.{answer-long, answer-begun, answer-allowed, answer-named}
@@ -109,7 +109,7 @@ module _ (f : Form) (gs : List Stored) (s : List ℕ) (fit : Holdable f gs) (rea
 
   -- it is unbroken
   pub reads-unbroken : storeNumber f s ≡ 0
-  unfolding placesRight allKeep breaks
+  unfolding placesRight answersRight namesDiffer
   reads-unbroken =
       let c = reads .count in
       let full : filledTo f (answers f s) s ≡ streamLength f s = rw c (filled (length gs) (omega arith) ∙ offset-all gs ∙ sym (reads .total)) in

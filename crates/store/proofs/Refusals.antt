@@ -13,8 +13,7 @@ use Rattle.catalog.specs.Table.{listed}
 use Rattle.catalog.specs.Name.{dayNamed, nameNumber}
 use Rattle.catalog.specs.declared.AnswerName.{AnswerName}
 use Rattle.store.specs.Layout.{Form, answers}
-use Rattle.store.specs.Check.{headerFits, countsFit, placesRight, allKeep, storeNumber}
-use Rattle.store.specs.declared.check.Rule.the-variants as rules
+use Rattle.store.specs.Check.{headerFits, countsFit, placesRight, answersRight, namesDiffer, storeNumber}
 use Rattle.store.specs.Read.{isHeld, lookupNumber, streamPlace, heldNumber, heldAnswer}
 use Rattle.store.specs.Answer.{nameOf, answerNumber}
 use Rattle.store.specs.Claims.{Missing}
@@ -56,17 +55,17 @@ module _ (f : Form) (s : List ℕ) where
       unless-before (headerFits f s) 5 _
       (unless-before (countsFit f s) 5 _
       (unless-before (placesRight f s) 5 _
-      (unless-before (allKeep f rules.Answer s) 5 _
+      (unless-before (answersRight f s) 5 _
       (rw e))))
 
   number-broken : storeNumber f s ≡ 5 → Broken f s
   unfolding storeNumber
   number-broken =
-      go (headerFits f s) (countsFit f s) (placesRight f s) (allKeep f rules.Answer s) (allKeep f rules.Name s)
+      go (headerFits f s) (countsFit f s) (placesRight f s) (answersRight f s) (namesDiffer f s)
       refl refl refl refl refl
     where
-      go : (h c p r d : Bool) → headerFits f s ≡ h → countsFit f s ≡ c → placesRight f s ≡ p → allKeep f rules.Answer s ≡ r
-          → allKeep f rules.Name s ≡ d → _≡_ {A = ℕ} (unless h 5 (unless c 5 (unless p 5 (unless r 5 (unless d 5 0))))) 5 → Broken f s
+      go : (h c p r d : Bool) → headerFits f s ≡ h → countsFit f s ≡ c → placesRight f s ≡ p → answersRight f s ≡ r
+          → namesDiffer f s ≡ d → _≡_ {A = ℕ} (unless h 5 (unless c 5 (unless p 5 (unless r 5 (unless d 5 0))))) 5 → Broken f s
       go false c p r d eh ec ep er ed e = header eh
       go true false p r d eh ec ep er ed e = counts ec
       go true true false r d eh ec ep er ed e = places ep

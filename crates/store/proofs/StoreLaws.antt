@@ -21,8 +21,7 @@ use Rattle.catalog.specs.Name.{nameNumber}
 use Rattle.catalog.proofs.NameLaws.{allowed, same-self}
 use Rattle.catalog.specs.declared.AnswerName.{AnswerName}
 use Rattle.store.specs.Layout.{Form, headerSize, answers, streamLength, storeLength, entryOffset, entryLength, answerStart, streamOf, answerAt, nameAt}
-use Rattle.store.specs.Check.{headerFits, countsFit, filledTo, placeRight, placesRight, answerRight, repeats, breaks, allKeep, storeNumber}
-use Rattle.store.specs.declared.check.Rule.the-variants as rules
+use Rattle.store.specs.Check.{headerFits, countsFit, filledTo, placeRight, placesRight, answerRight, answersRight, repeats, namesDiffer, storeNumber}
 use Rattle.store.specs.Claims.{Missing}
 use Rattle.store.specs.Read.{position, isHeld, lookupNumber, lookupPlace, lookupPart, streamPlace, streamPart}
 use Rattle.store.proofs.PositionLaws.{hasName, position-named, not-held}
@@ -35,8 +34,8 @@ module _ (f : Form) where
     pub count : answers f s ≤ f .answersMost
     pub stream : streamLength f s ≤ f .streamMost
     pub places : placesRight f s ≡ true
-    pub right : allKeep f rules.Answer s ≡ true
-    pub differ : allKeep f rules.Name s ≡ true
+    pub right : answersRight f s ≡ true
+    pub differ : namesDiffer f s ≡ true
 
   -- a store with number 0 passes them
   pub unbroken : (s : List ℕ) → storeNumber f s ≡ 0 → Unbroken s
@@ -78,8 +77,8 @@ module _ (f : Form) where
       unless-either (headerFits f s) 5 _
       (unless-either (countsFit f s) 5 _
       (unless-either (placesRight f s) 5 _
-      (unless-either (allKeep f rules.Answer s) 5 _
-      (unless-either (allKeep f rules.Name s) 5 0
+      (unless-either (answersRight f s) 5 _
+      (unless-either (namesDiffer f s) 5 0
       (inl refl)))))
 
   -- Each answer of an unbroken store
@@ -120,7 +119,7 @@ module _ (f : Form) where
 
   -- answer i lies in the stream, has at least two bytes, begins 76, has a name that number 12 allows, and no earlier one has that name
   pub held : (s : List ℕ) → storeNumber f s ≡ 0 → (i : ℕ) → i < answers f s → Held i s
-  unfolding allKeep breaks answerRight
+  unfolding answersRight answerRight namesDiffer
   held s e i h =
       let u = unbroken s e in
       let p = place-facts i s (places-at s (u .places) i h) in

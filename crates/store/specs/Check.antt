@@ -10,8 +10,6 @@ use Rattle.octets.specs.Numbers.{done, storeBroken}
 use Rattle.catalog.specs.Name.{sameAnswer, nameNumber}
 use Rattle.store.specs.Layout.{Form, headerSize, answers, streamLength, entryOffset, entryLength}
 use Rattle.store.specs.Layout.{storeLength, answerStart, nameAt}
-use Rattle.store.specs.declared.check.Rule.{Rule}
-use Rattle.store.specs.declared.check.Rule.the-variants as rules
 
 module _ (f : Form) where
   -- the buffer holds its header, and what that says
@@ -42,23 +40,22 @@ module _ (f : Form) where
   unfoldable pub answerRight : ℕ → List ℕ → Bool
   answerRight i s = eqb (getD s (answerStart f i s) 0) 0x76 && eqb (nameNumber (nameAt f i s)) 0
 
+  unfoldable pub answersRight : List ℕ → Bool
+  answersRight s = noneOf (λ i. not (answerRight i s)) (answers f s)
+
   -- the i-th answer has the name of an earlier one
   unfoldable pub repeats : ℕ → List ℕ → Bool
   repeats i s = anyOf (λ j. sameAnswer (nameAt f j s) (nameAt f i s)) i
 
-  -- the i-th entry breaks one of the rules of each answer: the one above, or "No two share TREP and day"
-  unfoldable pub breaks : Rule → ℕ → List ℕ → Bool
-  breaks rules.Answer i s = not (answerRight i s)
-  breaks rules.Name i s = repeats i s
-
-  unfoldable pub allKeep : Rule → List ℕ → Bool
-  allKeep rule s = noneOf (λ i. breaks rule i s) (answers f s)
+  -- "No two share TREP and day"
+  unfoldable pub namesDiffer : List ℕ → Bool
+  namesDiffer s = noneOf (λ i. repeats i s) (answers f s)
 
   unfoldable pub storeNumber : List ℕ → ℕ
   storeNumber s =
       unless (headerFits s) storeBroken
       (unless (countsFit s) storeBroken
       (unless (placesRight s) storeBroken
-      (unless (allKeep rules.Answer s) storeBroken
-      (unless (allKeep rules.Name s) storeBroken
+      (unless (answersRight s) storeBroken
+      (unless (namesDiffer s) storeBroken
       done))))

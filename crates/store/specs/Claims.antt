@@ -13,8 +13,7 @@ use Rattle.catalog.specs.Table.{listed}
 use Rattle.catalog.specs.Name.{dayNamed}
 use Rattle.catalog.specs.declared.AnswerName.{AnswerName}
 use Rattle.store.specs.Layout.{Form, Sized, narrow, answers, storeLength, nameAt}
-use Rattle.store.specs.Check.{headerFits, countsFit, placesRight, allKeep, storeNumber}
-use Rattle.store.specs.declared.check.Rule.the-variants as rules
+use Rattle.store.specs.Check.{headerFits, countsFit, placesRight, answersRight, namesDiffer, storeNumber}
 use Rattle.store.specs.Read.{lookupNumber, lookupPart, streamPlace, streamPart, heldAnswer}
 use Rattle.store.specs.Answer.{nameOf, answerNumber}
 use Rattle.store.specs.Contents.{Stored, nameFor, nothing, backToBack, storeOf, contents}
@@ -28,8 +27,8 @@ module _ (f : Form) where
     header : headerFits f s ≡ false → Broken s
     counts : countsFit f s ≡ false → Broken s
     places : placesRight f s ≡ false → Broken s
-    begins : allKeep f rules.Answer s ≡ false → Broken s
-    names : allKeep f rules.Name s ≡ false → Broken s
+    begins : answersRight f s ≡ false → Broken s
+    names : namesDiffer f s ≡ false → Broken s
 
 -- "12: answer .. not in the table below, or its day no multiple of 86,400, or a day other than zero outside activities,
 -- or an answer to append that does not begin 76 and a listed TREP"

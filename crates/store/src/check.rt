@@ -12,14 +12,8 @@ ghost use lib.ListN.{length};
 ghost use Rattle.octets.specs.Search.{anyOf};
 ghost use Rattle.catalog.specs.Name.{sameAnswer};
 ghost use Rattle.store.specs.Layout.{narrow, entrySize, entryStart, streamStart, nameAt};
-ghost use Rattle.store.specs.Check.{headerFits, countsFit, placesRight, answerRight, breaks, allKeep};
+ghost use Rattle.store.specs.Check.{headerFits, countsFit, placesRight, answerRight, answersRight, namesDiffer};
 ghost use Rattle.store.specs.Check.{storeNumber};
-
-// The rules of an entry by itself and of its name among those before it: the fourth check and the fifth.
-enum Rule {
-    Answer, // it begins 76 and has a name that number 12 allows
-    Name, // no entry before it has its name
-}
 
 // Whether the buffer holds its header, and what that says.
 fn header_fits(store: &[u8]) -> bool
@@ -76,6 +70,19 @@ fn answer_right(store: &[u8], i: usize) -> bool
     catalog::name_number(crate::layout::name_at(store, i)) == 0
 }
 
+// Whether each answer begins 76 and has a name that number 12 allows.
+fn answers_right(store: &[u8]) -> bool
+    requires { ⌜ streamStart narrow (now store) ≤ length (now store) ⌝ }
+    ensures { λ r. ⌜ r ≡ answersRight narrow (now (store .entry)) ⌝ }
+{
+    let n = crate::layout::answers(store);
+    let mut i = 0;
+    while i < n && answer_right(store, i) {
+        i += 1;
+    }
+    i == n
+}
+
 // Whether one of the first `count` answers has this name.
 fn named_before(store: &[u8], count: usize, name: AnswerName) -> bool
     requires { ⌜ entryStart narrow count ≤ length (now store) ⌝ }
@@ -91,25 +98,15 @@ fn named_before(store: &[u8], count: usize, name: AnswerName) -> bool
     false
 }
 
-// Whether the entry breaks the rule.
-fn breaks(store: &[u8], rule: Rule, i: usize) -> bool
-    requires { ⌜ entryStart narrow i + entrySize narrow ≤ length (now store) ⌝ }
-    ensures { λ r. ⌜ r ≡ breaks narrow rule i (now (store .entry)) ⌝ }
-{
-    match rule {
-        Rule::Answer => !answer_right(store, i),
-        Rule::Name => named_before(store, i, crate::layout::name_at(store, i)),
-    }
-}
-
-fn all_keep(store: &[u8], rule: Rule) -> bool
+// Whether no answer has the name of an earlier one.
+fn names_differ(store: &[u8]) -> bool
     requires { ⌜ streamStart narrow (now store) ≤ length (now store) ⌝ }
-    ensures { λ r. ⌜ r ≡ allKeep narrow rule (now (store .entry)) ⌝ }
+    ensures { λ r. ⌜ r ≡ namesDiffer narrow (now (store .entry)) ⌝ }
 {
     let n = crate::layout::answers(store);
     let mut i = 0;
     while i < n {
-        if breaks(store, rule, i) {
+        if named_before(store, i, crate::layout::name_at(store, i)) {
             return false;
         }
         i += 1;
@@ -130,10 +127,10 @@ pub fn check(store: &[u8]) -> u8
     if !places_right(store) {
         return STORE_BROKEN;
     }
-    if !all_keep(store, Rule::Answer) {
+    if !answers_right(store) {
         return STORE_BROKEN;
     }
-    if !all_keep(store, Rule::Name) {
+    if !names_differ(store) {
         return STORE_BROKEN;
     }
     0
