@@ -39,7 +39,8 @@ unitIn kind phase = record { kind = kind; rate = 1; pending = 0; phase = phase }
 
 module _ (kind : ℕ) (store reply : List ℕ) (k : kind < 3) (unbroken : storeNumber narrow store ≡ 0) (room : 260 ≤ length reply) where
   -- a step that is not refused, from what it makes of the state
-  stepped : (p q : Phase) (request : Request) → units.Fits p → possible store (unitIn kind p) ≡ true → judged lab ends.Unit (frameSent lab request zeroName 1) ≡ 0
+  stepped : (p q : Phase) (request : Request) → units.Fits p → possible store (unitIn kind p) ≡ true
+      → judged lab ends.Unit (frameSent lab request zeroName 1) ≡ 0
       → stateAfter (unitIn kind p) (reactionTo lab store (unitIn kind p) (frameSent lab request zeroName 1)) ≡ unitIn kind q
       → behind store reply request (packedUnit (unitIn kind p)) ≡ packedUnit (unitIn kind q)
   unfolding unitState unitResult
@@ -47,7 +48,8 @@ module _ (kind : ℕ) (store reply : List ℕ) (k : kind < 3) (unbroken : storeN
       let n : unitNumber lab store (length reply) (unitIn kind p) (frameSent lab request zeroName 1) ≡ 0 =
       not-refused lab store (unitIn kind p) (length reply) (frameSent lab request zeroName 1) unbroken h (le-leb 260 (length reply) room) j in
       let s : unitState lab store (length reply) (unitIn kind p) (frameSent lab request zeroName 1) ≡ unitIn kind q = rw n e in
-      ap (λ (r : Result (List ℕ) (List ℕ)). r .next) (unit-called (record { store = store; reply = reply }) (unitIn kind p) (frameSent lab request zeroName 1) f)
+      ap (λ (r : Result (List ℕ) (List ℕ)). r .next)
+      (unit-called (record { store = store; reply = reply }) (unitIn kind p) (frameSent lab request zeroName 1) f)
       ∙ ap packedUnit s
 
   started : behind store reply requests.Start (packedUnit (unitIn kind Closed)) ≡ packedUnit (unitIn kind Started)

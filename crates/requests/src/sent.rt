@@ -74,7 +74,8 @@ fn before(expected: SubMessage) -> SubMessage
 
 // With 1 expected the transfer request is out, else the acknowledgement of the sub message before.
 fn write_transfer(name: AnswerName, expected: SubMessage, out: &mut [u8]) -> Written
-    ensures { λ r. ⌜ r ≡ sendResult (frameOf lab ends.Unit (transferData name (expected .0))) (length (now (out .entry))) ⌝ }
+    ensures { λ r. ⌜ r ≡
+        sendResult (frameOf lab ends.Unit (transferData name (expected .0))) (length (now (out .entry))) ⌝ }
     ensures { λ _. ⌜ now (out .exit) ≡
         sendOut (frameOf lab ends.Unit (transferData name (expected .0))) (now (out .entry)) ⌝ }
 {

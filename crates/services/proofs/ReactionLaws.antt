@@ -113,7 +113,8 @@ module _ (P : Reaction → Type 0) (plain : (x : Reaction) → sendsAnswer x ≡
   -- the last one again, the next one, or none
   from-sending : (phase : Phase) (sent : Place) (c : AckCode)
       → ((name : AnswerName) (last : SubMessage) → phase ≡ Sending name last → P (AnswerSent name last sent))
-      → ((name : AnswerName) (last : SubMessage) → phase ≡ Sending name last → last .0 + 1 ≤ countOf (dataLengthAt sent) → P (AnswerSent name (nextOf last) sent))
+      → ((name : AnswerName) (last : SubMessage) → phase ≡ Sending name last → last .0 + 1 ≤ countOf (dataLengthAt sent)
+      → P (AnswerSent name (nextOf last) sent))
       → P (onSending phase sent c)
   unfolding onSending onCode
   from-sending Closed sent c again next = negative 0x83 0x22
@@ -131,7 +132,8 @@ module _ (P : Reaction → Type 0) (plain : (x : Reaction) → sendsAnswer x ≡
 
   pub every-service : (sent asked : Place) (u : UnitState) (d : List ℕ) → P (answerFrom (requestName d) (sub 1) asked)
       → ((name : AnswerName) (last : SubMessage) → u .phase ≡ Sending name last → P (AnswerSent name last sent))
-      → ((name : AnswerName) (last : SubMessage) → u .phase ≡ Sending name last → last .0 + 1 ≤ countOf (dataLengthAt sent) → P (AnswerSent name (nextOf last) sent))
+      → ((name : AnswerName) (last : SubMessage) → u .phase ≡ Sending name last → last .0 + 1 ≤ countOf (dataLengthAt sent)
+      → P (AnswerSent name (nextOf last) sent))
       → P (onData sent asked u d)
   unfolding onData
   every-service sent asked u d first again next =

@@ -6,7 +6,8 @@ use mathlib.Core.Path.{_≡_}
 use Rattle.octets.specs.Buffer.{Bytes}
 use Rattle.services.specs.declared.UnitState.{UnitState}
 use Rattle.progress.specs.declared.ToolState.{ToolState}
-use Rattle.states.specs.Packed.{namePacked, lastPacked, packedUnit, isUnit, unpackedUnit, packedTool, isTool, unpackedTool}
+use Rattle.states.specs.Packed.{namePacked, lastPacked, packedUnit, isUnit, unpackedUnit}
+use Rattle.states.specs.Packed.{packedTool, isTool, unpackedTool}
 
 pub record StateClaims : Type 0 where
   -- a state comes back from its packed bytes; its day, number and count of bytes held fit their fields

@@ -42,7 +42,8 @@ use Rattle.unit.proofs.StoreFacts.{InStore, found-in}
 module _ (P : Reaction → Type 0) (plain : (x : Reaction) → sendsAnswer x ≡ false → P x) where
   pub every-reaction : (a : Addresses) (sent asked : Place) (u : UnitState) (b : List ℕ) → P (answerFrom (requestName (dataOf a ends.Unit b)) (sub 1) asked)
       → ((name : AnswerName) (last : SubMessage) → u .phase ≡ Sending name last → P (AnswerSent name last sent))
-      → ((name : AnswerName) (last : SubMessage) → u .phase ≡ Sending name last → last .0 + 1 ≤ countOf (dataLengthAt sent) → P (AnswerSent name (nextOf last) sent))
+      → ((name : AnswerName) (last : SubMessage) → u .phase ≡ Sending name last → last .0 + 1 ≤ countOf (dataLengthAt sent)
+      → P (AnswerSent name (nextOf last) sent))
       → P (reactionAt a sent asked u b)
   unfolding reactionAt
   every-reaction a sent asked u b first again next =
@@ -104,7 +105,8 @@ module _ (s : List ℕ) where
     sent-in : InStore s (placeSent s (u .phase) .start) (placeSent s (u .phase) .len)
     sent-in = found-in s (nameSent (u .phase)) (sendable-now .held)
 
-    sent-piece : (k : SubMessage) → 1 ≤ k .0 → k .0 ≤ countOf (dataLengthAt (placeSent s (u .phase))) → pieceSent s (AnswerSent name k (placeSent s (u .phase))) ≡ 0
+    sent-piece : (k : SubMessage) → 1 ≤ k .0 → k .0 ≤ countOf (dataLengthAt (placeSent s (u .phase)))
+        → pieceSent s (AnswerSent name k (placeSent s (u .phase))) ≡ 0
     unfolding pieceSent
     sent-piece k f l = piece-in (placeSent s (u .phase) .start) (placeSent s (u .phase) .len) (k .0) sent-in f l
 

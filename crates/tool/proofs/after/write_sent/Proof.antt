@@ -8,7 +8,9 @@ use borrow.Author.Needs.{needs}
 use Rattle.tool.proofs.after.write_sent.Statement.{statement}
 use Rattle.tool.proofs.after.write_sent.Tie as tie
 
-ruleset all = (needs, sent-at-length, sent-at-front, front-none, taken-next, third-length, third-front, again-length, again-front, stop-length, stop-front, request-whole, request-front, acknowledgement-whole, acknowledgement-front)
+ruleset whole = (stop-length, stop-front, request-whole, request-front, acknowledgement-whole, acknowledgement-front)
+
+ruleset all = (needs, sent-at-length, sent-at-front, front-none, taken-next, third-length, third-front, again-length, again-front, whole)
 
 pub write-sent-spec : {M : Type 1} → statement M
 unfolding sentAfter takes
