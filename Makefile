@@ -26,14 +26,14 @@ help:
 	@echo "scripts/try         a wrong program, and why the prover refuses it"
 
 test:
-	@scripts/test
+	@scripts/in-memory scripts/test
 
 run: programs
 	@host/demo/run $(BUILT)
 
 prove:
 	@scripts/need rt
-	@rt check $(CRATE)
+	@scripts/in-memory rt check $(CRATE)
 
 bench: $(BUILT)/bench
 	@$(BUILT)/bench
@@ -51,7 +51,8 @@ $(ARCHIVE): $(SOURCES)
 	@scripts/need rt gcc
 	@mkdir -p $(BUILT)
 	@[ -e target/rlib/tool.rlib ] || echo "proving the library: this takes some minutes the first time"
-	@{ rt check unit tool records append states && rt staticlib host; } >$(BUILT)/archive.log 2>&1 || { cat $(BUILT)/archive.log; exit 1; }
+	@scripts/in-memory sh -c 'rt check unit tool records append states && rt staticlib host' \
+		>$(BUILT)/archive.log 2>&1 || { cat $(BUILT)/archive.log; exit 1; }
 
 # the proved calls, and the texts beside them
 $(LIBRARY): $(ARCHIVE) host/lib/text.c host/include/tacho.h

@@ -138,7 +138,7 @@ int main(int argc, char **argv)
     uint8_t number = tacho_store_check(store, store_len);
     if (number == TACHO_OK) number = tacho_unit_fresh((uint8_t)s.kind, state, sizeof state);
     if (number != TACHO_OK) {
-        fprintf(stderr, "%s: %s (%u)\n", s.store, tacho_number_text(number), number);
+        fprintf(stderr, "'%s': %s (%u)\n", s.store, tacho_number_text(number), number);
         free(store);
         return 2;
     }

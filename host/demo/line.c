@@ -71,11 +71,11 @@ bool line_open(line *l, const char *path, const line_port *port)
     if (!line_port_check(port)) return false;
     l->fd = open(path, O_RDWR | O_NOCTTY | O_NONBLOCK);
     if (l->fd < 0) {
-        fprintf(stderr, "%s: %s\n", path, strerror(errno));
+        fprintf(stderr, "'%s': %s\n", path, strerror(errno));
         return false;
     }
     if (!set_up(l->fd, port)) {
-        fprintf(stderr, "%s: not a serial port or pseudo-terminal, or not one that can be set up so\n", path);
+        fprintf(stderr, "'%s': not a serial port or pseudo-terminal, or not one that can be set up so\n", path);
         close(l->fd);
         return false;
     }

@@ -61,7 +61,7 @@ unsigned char *file_read(const char *path, size_t most, size_t *len)
     FILE *f = fopen(path, "rb");
     unsigned char *bytes = f ? malloc(most + 1) : NULL;
     if (!bytes) {
-        fprintf(stderr, "%s: %s\n", path, strerror(errno));
+        fprintf(stderr, "'%s': %s\n", path, strerror(errno));
         if (f) fclose(f);
         return NULL;
     }
@@ -69,7 +69,7 @@ unsigned char *file_read(const char *path, size_t most, size_t *len)
     bool bad = ferror(f);
     fclose(f);
     if (bad || *len > most) {
-        fprintf(stderr, "%s: %s\n", path, bad ? "cannot be read" : "is too long");
+        fprintf(stderr, "'%s': %s\n", path, bad ? "cannot be read" : "is too long");
         free(bytes);
         return NULL;
     }
@@ -108,7 +108,7 @@ bool file_may_be_written(const char *path)
     char *place = place_for(path, &beside);
     FILE *f = place ? fopen(place, "ab") : NULL;
     if (f) good = fclose(f) == 0 && (!beside || remove(place) == 0);
-    if (!good) fprintf(stderr, "%s: %s\n", path, strerror(errno));
+    if (!good) fprintf(stderr, "'%s': %s\n", path, strerror(errno));
     free(place);
     return good;
 }
@@ -123,7 +123,7 @@ bool file_write(const char *path, const unsigned char *bytes, size_t len)
     if (f && fclose(f)) good = false;
     if (good && beside && rename(place, path)) good = false, why = errno;
     if (!good) {
-        fprintf(stderr, "%s: %s\n", path, strerror(why));
+        fprintf(stderr, "'%s': %s\n", path, strerror(why));
         if (f && beside) remove(place);
     }
     free(place);
