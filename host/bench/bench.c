@@ -54,9 +54,30 @@ static uint8_t answer[TACHO_ANSWER_MOST], frame[TACHO_FRAME_MOST], body[ARRAY_HE
 static uint8_t work[TACHO_STORE_MOST], room[TACHO_ANSWER_MOST], out[TACHO_FRAME_MOST];
 static volatile size_t sink;
 
-static void sum(const side *c)
+/* Shorter than a turn of eight, one turn, turns and a rest; a full frame, and all of the longest answer. */
+static void sum_5(const side *c)
+{
+    sink += c->checksum(answer, 5);
+}
+
+static void sum_8(const side *c)
+{
+    sink += c->checksum(answer, 8);
+}
+
+static void sum_17(const side *c)
+{
+    sink += c->checksum(answer, 17);
+}
+
+static void sum_260(const side *c)
 {
     sink += c->checksum(frame, sizeof frame);
+}
+
+static void sum_60000(const side *c)
+{
+    sink += c->checksum(answer, sizeof answer);
 }
 
 static void frame_judged(const side *c)
@@ -130,7 +151,9 @@ static const struct {
     void (*run)(const side *);
     unsigned reps;
 } cases[] = {
-    {"checksum-of-260-bytes", sum, 200000},       {"frame-check-260-bytes", frame_judged, 200000},
+    {"checksum-of-5-bytes", sum_5, 200000},       {"checksum-of-8-bytes", sum_8, 200000},
+    {"checksum-of-17-bytes", sum_17, 200000},     {"checksum-of-260-bytes", sum_260, 200000},
+    {"checksum-of-60000-bytes", sum_60000, 2000}, {"frame-check-260-bytes", frame_judged, 200000},
     {"unit-call-1-answer", unit_call_1, 200000},  {"unit-call-64-answers", unit_call_64, 20000},
     {"tool-arrival", arrival, 200000},            {"download-59998-bytes", download, 200},
     {"store-check-1-answer", check_1, 200000},    {"store-check-64-answers", check_64, 20000},

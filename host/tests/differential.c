@@ -475,6 +475,47 @@ static void frames(void)
     compare(FRAME_WRITE, 2, of_written(w), of_written(v));
 }
 
+/* Sums worked out by hand: no byte, one turn of eight, a turn and a rest, two turns and a rest, the start frame's. */
+static void known_sums(void)
+{
+    static const struct {
+        const char *bytes;
+        size_t len;
+        uint8_t sum;
+    } known[] = {
+        {"", 0, 0x00},
+        {"\x00\x01\x02\x03\x04\x05\x06\x07", 8, 0x1C},
+        {"\xFF\xFF\xFF\xFF\xFF\xFF\xFF\xFF", 8, 0xF8},
+        {"\x01\x01\x01\x01\x01\x01\x01\x01\x01", 9, 0x09},
+        {"\xFF\xFF\xFF\xFF\xFF\xFF\xFF\xFF\xFF\xFF\xFF\xFF\xFF\xFF\xFF\xFF\xFF", 17, 0xEF},
+        {"\x81\xEE\xF0\x81", 4, 0xE0},
+    };
+    for (size_t k = 0; k < sizeof known / sizeof *known; k++) {
+        const uint8_t *b = lend(0, (const uint8_t *)known[k].bytes, known[k].len);
+        compare(CHECKSUM, 1, (result){0, {tacho_checksum(b, known[k].len)}}, (result){0, {known[k].sum}});
+    }
+}
+
+/* The checksum of so many bytes from every alignment: first they end at the inaccessible page, then before others. */
+static void sums_of(size_t len)
+{
+    enum { ALIGNMENTS = 64 }; /* of a cache line: no load of the compiled loop is wider */
+    for (size_t behind = 0; behind < ALIGNMENTS; behind++) {
+        const uint8_t *b = lend(0, NULL, len + behind);
+        compare(CHECKSUM, 1, (result){0, {tacho_checksum(b, len)}}, (result){0, {ref_checksum(copy[0], len)}});
+    }
+}
+
+/* Where the turns of eight and the rest meet: short lengths, around each multiple of eight up to a frame, and the longest answer's. */
+static void sums(void)
+{
+    known_sums();
+    for (size_t len = 0; len <= 40; len++) sums_of(len);
+    for (size_t turns = 6; turns * 8 < TACHO_FRAME_MOST + 8; turns++)
+        for (size_t len = turns * 8 - 1; len <= turns * 8 + 1; len++) sums_of(len);
+    for (size_t len = TACHO_ANSWER_MOST - 9; len <= TACHO_ANSWER_MOST + 9; len++) sums_of(len);
+}
+
 static void splitting(void)
 {
     size_t n = some_length(random_below(8) ? 1000 : 60001), room = random_below(4) ? 260 : some_length(270);
@@ -630,6 +671,7 @@ int main(int argc, char **argv)
     printf("differential: seed %llu\n", (unsigned long long)seed);
     fflush(stdout); /* it stays readable where a sanitizer or a guard page ends the test */
     for (int i = 0; i < 4; i++) guard_make(&lent[i], LONGEST);
+    sums();
     for (unsigned long i = 0; i < rounds; i++) {
         frames();
         splitting();
