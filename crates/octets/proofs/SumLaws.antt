@@ -12,6 +12,10 @@ total-append : (p q : List ℕ) → total (p ++ q) ≡ total p + total q
 total-append [] q = omega arith
 total-append (x ∷ p) q = omega (arith, total-append p q)
 
+-- a part of one byte
+total-one : (s : List ℕ) (i : ℕ) → i < length s → total (partAt i 1 s) ≡ getD s i 0
+total-one s i h = rw (drop-cons s i 0 h) (omega arith)
+
 -- the first i bytes are in the sum, and the k behind them are added
 sum-more : (s : List ℕ) (i k start sum r : ℕ) → sum ≡ (start + total (take i s)) % 256 → r ≡ (sum + total (partAt i k s)) % 256
     → r ≡ (start + total (take (i + k) s)) % 256
@@ -20,7 +24,7 @@ sum-more s i k start sum r p q = omega (arith, ap total (take-add i k s), total-
 -- one byte is added
 pub byte-more : (s : List ℕ) (i start sum r : ℕ) → i < length s → sum ≡ (start + total (take i s)) % 256 → r ≡ (sum + getD s i 0) % 256
     → r ≡ (start + total (take (i + 1) s)) % 256
-byte-more s i start sum r h p q = sum-more s i 1 start sum r p (rw (drop-cons s i 0 h) (omega arith))
+byte-more s i start sum r h p q = sum-more s i 1 start sum r p (rw (total-one s i h) q)
 
 -- all bytes are in the sum
 pub bytes-done : (s : List ℕ) (i start sum : ℕ) → length s ≤ i → sum ≡ (start + total (take i s)) % 256 → sum ≡ (start + total s) % 256
@@ -32,16 +36,15 @@ module _ (s : List ℕ) (at start : ℕ) (h : at + 8 ≤ length s) where
       → r ≡ (start + total (partAt at (k + 1) s)) % 256
   next k sum r l p q = byte-more (drop at s) k start sum r (simp length-drop (omega arith)) p (rw getD-drop q)
 
-  pub eight-done : (r₁ r₂ r₃ r₄ r₅ r₆ r₇ r : ℕ) → start < 256 → r₁ ≡ (start + getD s at 0) % 256 → r₂ ≡ (r₁ + getD s (at + 1) 0) % 256
+  pub eight-done : (r₁ r₂ r₃ r₄ r₅ r₆ r₇ r : ℕ) → r₁ ≡ (start + getD s at 0) % 256 → r₂ ≡ (r₁ + getD s (at + 1) 0) % 256
       → r₃ ≡ (r₂ + getD s (at + 2) 0) % 256 → r₄ ≡ (r₃ + getD s (at + 3) 0) % 256 → r₅ ≡ (r₄ + getD s (at + 4) 0) % 256
       → r₆ ≡ (r₅ + getD s (at + 5) 0) % 256 → r₇ ≡ (r₆ + getD s (at + 6) 0) % 256 → r ≡ (r₇ + getD s (at + 7) 0) % 256
       → r ≡ (start + total (partAt at 8 s)) % 256
-  eight-done r₁ r₂ r₃ r₄ r₅ r₆ r₇ r b e₁ e₂ e₃ e₄ e₅ e₆ e₇ e₈ =
-      let n : at + 0 ≡ at = omega arith in
-      let q₁ : r₁ ≡ (start + total (partAt at 1 s)) % 256 = next 0 start r₁ (omega arith) (omega arith) (rw n e₁) in
-      let q₄ : r₄ ≡ (start + total (partAt at 4 s)) % 256 =
-      next 3 r₃ r₄ (omega arith) (next 2 r₂ r₃ (omega arith) (next 1 r₁ r₂ (omega arith) q₁ e₂) e₃) e₄ in
-      next 7 r₇ r (omega arith) (next 6 r₆ r₇ (omega arith) (next 5 r₅ r₆ (omega arith) (next 4 r₄ r₅ (omega arith) q₄ e₅) e₆) e₇) e₈
+  eight-done r₁ r₂ r₃ r₄ r₅ r₆ r₇ r e₁ e₂ e₃ e₄ e₅ e₆ e₇ e₈ =
+      let q₁ : r₁ ≡ (start + total (partAt at 1 s)) % 256 = rw (total-one s at (omega arith)) e₁ in
+      let q₃ : r₃ ≡ (start + total (partAt at 3 s)) % 256 = next 2 r₂ r₃ (omega arith) (next 1 r₁ r₂ (omega arith) q₁ e₂) e₃ in
+      let q₅ : r₅ ≡ (start + total (partAt at 5 s)) % 256 = next 4 r₄ r₅ (omega arith) (next 3 r₃ r₄ (omega arith) q₃ e₄) e₅ in
+      next 7 r₇ r (omega arith) (next 6 r₆ r₇ (omega arith) (next 5 r₅ r₆ (omega arith) q₅ e₆) e₇) e₈
 
 -- a turn is in the sum of all bytes
 pub turn-more : (s : List ℕ) (turn sum r : ℕ) → sum ≡ total (take (turn * 8) s) % 256 → r ≡ (sum + total (partAt (turn * 8) 8 s)) % 256
