@@ -1,5 +1,6 @@
 /*
- * The proved calls against the plain C reference: same machine, same inputs, both built -O2, repetitions interleaved.
+ * The proved calls against the plain C reference: same machine, same inputs, repetitions interleaved. The plain C is built -O2, the
+ * proved code by the kit (-O3).
  *
  *   bench                            every case: nanoseconds a call, and the ratio
  *   bench CASE proved|reference N    one case N times, for counting instructions

@@ -1,7 +1,7 @@
 /*
  * Every call of tacho.h against the plain C reference, on random, valid and damaged inputs in random states: the same
  * results and the same bytes in every buffer, inputs untouched, nothing changed by a refused call, no byte outside the
- * buffers touched. Each call gives each of its numbers, and no other.
+ * buffers touched. Each call gives each of its numbers, and no other. Some checksums are compared with sums by hand.
  *
  *   differential [ROUNDS [SEED]]
  */
@@ -506,12 +506,12 @@ static void sums_of(size_t len)
     }
 }
 
-/* Where the turns of eight and the rest meet: short lengths, around each multiple of eight up to a frame, and the longest answer's. */
+/* Where the turns of eight and the rest meet: short lengths, around each multiple of eight up to a frame, and around the longest answer. */
 static void sums(void)
 {
     known_sums();
     for (size_t len = 0; len <= 40; len++) sums_of(len);
-    for (size_t turns = 6; turns * 8 < TACHO_FRAME_MOST + 8; turns++)
+    for (size_t turns = 5; turns * 8 < TACHO_FRAME_MOST + 8; turns++)
         for (size_t len = turns * 8 - 1; len <= turns * 8 + 1; len++) sums_of(len);
     for (size_t len = TACHO_ANSWER_MOST - 9; len <= TACHO_ANSWER_MOST + 9; len++) sums_of(len);
 }

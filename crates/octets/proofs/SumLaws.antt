@@ -8,6 +8,7 @@ use lib.Seq.{take-all, take-add, drop-cons, getD-drop}
 use Rattle.octets.specs.Buffer.{partAt}
 use Rattle.octets.specs.Sum.{total}
 
+-- two lists put together
 total-append : (p q : List ℕ) → total (p ++ q) ≡ total p + total q
 total-append [] q = omega arith
 total-append (x ∷ p) q = omega (arith, total-append p q)
@@ -42,16 +43,20 @@ module _ (s : List ℕ) (at start : ℕ) (h : at + 8 ≤ length s) where
       → r ≡ (start + total (partAt at 8 s)) % 256
   eight-done r₁ r₂ r₃ r₄ r₅ r₆ r₇ r e₁ e₂ e₃ e₄ e₅ e₆ e₇ e₈ =
       let q₁ : r₁ ≡ (start + total (partAt at 1 s)) % 256 = rw (total-one s at (omega arith)) e₁ in
-      let q₃ : r₃ ≡ (start + total (partAt at 3 s)) % 256 = next 2 r₂ r₃ (omega arith) (next 1 r₁ r₂ (omega arith) q₁ e₂) e₃ in
-      let q₅ : r₅ ≡ (start + total (partAt at 5 s)) % 256 = next 4 r₄ r₅ (omega arith) (next 3 r₃ r₄ (omega arith) q₃ e₄) e₅ in
-      next 7 r₇ r (omega arith) (next 6 r₆ r₇ (omega arith) (next 5 r₅ r₆ (omega arith) q₅ e₆) e₇) e₈
+      let q₂ : r₂ ≡ (start + total (partAt at 2 s)) % 256 = next 1 r₁ r₂ (omega arith) q₁ e₂ in
+      let q₃ : r₃ ≡ (start + total (partAt at 3 s)) % 256 = next 2 r₂ r₃ (omega arith) q₂ e₃ in
+      let q₄ : r₄ ≡ (start + total (partAt at 4 s)) % 256 = next 3 r₃ r₄ (omega arith) q₃ e₄ in
+      let q₅ : r₅ ≡ (start + total (partAt at 5 s)) % 256 = next 4 r₄ r₅ (omega arith) q₄ e₅ in
+      let q₆ : r₆ ≡ (start + total (partAt at 6 s)) % 256 = next 5 r₅ r₆ (omega arith) q₅ e₆ in
+      let q₇ : r₇ ≡ (start + total (partAt at 7 s)) % 256 = next 6 r₆ r₇ (omega arith) q₆ e₇ in
+      next 7 r₇ r (omega arith) q₇ e₈
 
--- a turn is in the sum of all bytes
+-- the eight bytes of a turn are added to the sum of the turns before it
 pub turn-more : (s : List ℕ) (turn sum r : ℕ) → sum ≡ total (take (turn * 8) s) % 256 → r ≡ (sum + total (partAt (turn * 8) 8 s)) % 256
     → r ≡ total (take ((turn + 1) * 8) s) % 256
 turn-more s turn sum r p q = let n : (turn + 1) * 8 ≡ turn * 8 + 8 = omega arith in rw n (omega (arith, sum-more s (turn * 8) 8 0 sum r (omega arith) q))
 
--- all turns are over, and r has the rest, which stands behind them
+-- all turns are over, and r is the sum with the rest, which stands behind them
 pub rest-done : (s : List ℕ) (turns turn sum r : ℕ) → turn ≤ turns → turns ≤ turn → sum ≡ total (take (turn * 8) s) % 256
     → r ≡ (sum + total (partAt (turns * 8) (length s - turns * 8) s)) % 256 → r ≡ total s % 256
 rest-done s turns turn sum r l h p q =

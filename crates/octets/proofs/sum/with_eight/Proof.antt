@@ -1,4 +1,5 @@
--- Each row is a byte: its index, that it lies in the slice, the sum with it. The eight sums, one inside the other, wrap as their whole sum does.
+-- Each row is a byte: its index (the first has no addition), that it lies in the slice, the sum with it. The last line: the eight wrapping sums make
+-- the whole sum modulo 256.
 use Rattle.octets.proofs.SumLaws.{eight-done}
 use borrow.Author.Needs.{needs}
 use Rattle.octets.proofs.sum.with_eight.Statement.{statement}
