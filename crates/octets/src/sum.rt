@@ -35,8 +35,7 @@ fn with_rest(rest: &[u8], start: u8) -> u8
 
 // The checksum of `bytes`: a running sum that wraps, equal to the sum over whole numbers modulo 256. Eight bytes are
 // added in a turn while at least eight are left, then the rest. The turns are counted beforehand and the rest is handed
-// on as a part: of what was tried, boards without wide instructions need the fewest for a full frame so
-// (docs/PERFORMANCE.md).
+// on as a part, which suits boards without wide instructions (docs/PERFORMANCE.md).
 pub fn checksum(bytes: &[u8]) -> u8
     ensures { λ r. ⌜ r ≡ checksumOf (now (bytes .entry)) ⌝ }
 {
