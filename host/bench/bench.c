@@ -47,7 +47,7 @@ typedef struct {
 enum { ANSWERS_MOST = 64, RECORD_SIZE = 5, RECORDS = 9999, ARRAY_HEADER = 5 };
 
 /* The inputs, which no case changes: a case that changes a state or a store has a copy of it. */
-static store one, many, all_but_one, full;
+static store one, many, all_but_one, full, rising, mixed, falling;
 static uint8_t granted[TACHO_UNIT_STATE], fresh[TACHO_TOOL_STATE], begun[TACHO_TOOL_STATE];
 static uint8_t answer[TACHO_ANSWER_MOST], frame[TACHO_FRAME_MOST], body[ARRAY_HEADER + RECORD_SIZE * RECORDS];
 
@@ -135,6 +135,23 @@ static void check_64(const side *c)
     sink += c->store_check(many.bytes, many.len);
 }
 
+/* A check looks for names that come twice: here they rise, stand in a fixed mixed order, or fall. Of `check_64` 63 rise, and the last is
+ * the least. */
+static void check_rising(const side *c)
+{
+    sink += c->store_check(rising.bytes, rising.len);
+}
+
+static void check_mixed(const side *c)
+{
+    sink += c->store_check(mixed.bytes, mixed.len);
+}
+
+static void check_falling(const side *c)
+{
+    sink += c->store_check(falling.bytes, falling.len);
+}
+
 static void append(const side *c)
 {
     memcpy(work, all_but_one.bytes, all_but_one.len);
@@ -152,13 +169,15 @@ static const struct {
     void (*run)(const side *);
     unsigned reps;
 } cases[] = {
-    {"checksum-of-5-bytes", sum_5, 200000},       {"checksum-of-8-bytes", sum_8, 200000},
-    {"checksum-of-17-bytes", sum_17, 200000},     {"checksum-of-260-bytes", sum_260, 200000},
-    {"checksum-of-60000-bytes", sum_60000, 2000}, {"frame-check-260-bytes", frame_judged, 200000},
-    {"unit-call-1-answer", unit_call_1, 200000},  {"unit-call-64-answers", unit_call_64, 20000},
-    {"tool-arrival", arrival, 200000},            {"download-59998-bytes", download, 200},
-    {"store-check-1-answer", check_1, 200000},    {"store-check-64-answers", check_64, 20000},
-    {"append-to-63-answers", append, 20000},      {"all-records-of-50000-bytes", records, 200},
+    {"checksum-of-5-bytes", sum_5, 200000},               {"checksum-of-8-bytes", sum_8, 200000},
+    {"checksum-of-17-bytes", sum_17, 200000},             {"checksum-of-260-bytes", sum_260, 200000},
+    {"checksum-of-60000-bytes", sum_60000, 2000},         {"frame-check-260-bytes", frame_judged, 200000},
+    {"unit-call-1-answer", unit_call_1, 200000},          {"unit-call-64-answers", unit_call_64, 20000},
+    {"tool-arrival", arrival, 200000},                    {"download-59998-bytes", download, 200},
+    {"store-check-1-answer", check_1, 200000},            {"store-check-64-answers", check_64, 20000},
+    {"store-check-64-rising-names", check_rising, 20000}, {"store-check-64-mixed-names", check_mixed, 20000},
+    {"store-check-64-falling-names", check_falling, 20000},
+    {"append-to-63-answers", append, 20000},              {"all-records-of-50000-bytes", records, 200},
 };
 enum { COUNT = sizeof cases / sizeof *cases, ROUNDS = 15 };
 
@@ -187,6 +206,11 @@ static void make_stores(void)
     for (uint32_t day = 0; day < ANSWERS_MOST - 1; day++) put(&all_but_one, 0x32, 2, 86400 * day);
     many = all_but_one;
     put(&many, 0x00, 2, 0);
+    for (uint32_t i = 0; i < ANSWERS_MOST; i++) {
+        put(&rising, 0x32, 2, 86400 * i);
+        put(&mixed, 0x32, 2, 86400 * ((i * 37 + 11) % ANSWERS_MOST)); /* 37 is odd: each day once */
+        put(&falling, 0x32, 2, 86400 * (ANSWERS_MOST - 1 - i));
+    }
     put(&full, 0x24, sizeof answer, 0);
     size_t n = tacho_sub_message(answer + 2, sizeof answer - 2, 0x24, 1, frame, sizeof frame).len;
     made(n == sizeof frame, "a full frame");

@@ -24,7 +24,7 @@ static const char help[] =
     "  --delay N        milliseconds from a request to its reply (P2, 20 to 1,000; default 20)\n"
     "  --gap N          milliseconds between the bytes of a reply (P1, 0 to 20; default 0)\n"
     "  --lose N --repeat N --spoil N   of a thousand replies (default 0)\n"
-    "  --seed N         of the faults (default 1)\n"
+    "  --seed N         of the line's faults (default 1)\n"
     "  --idle N         end after N seconds without a byte (default 10)\n"
     "  --list           write what the store holds, in the form of download's --answers, and end\n"
     "  --stream FILE    write the store's stream to the file, each answer as 76, TREP, data, back to back (DDP_034), and end\n"
@@ -66,6 +66,33 @@ static bool read_settings(int argc, char **argv, settings *s)
     }
     line_port port = port_of(s);
     return line_port_check(&port) && faults_check(s->lose, s->repeat, s->spoil);
+}
+
+/* Says what is broken in the store, and where. The first four bytes alone, which are its header, have the fault 13 at the count of answers:
+ * so the count of a broken store is known too. */
+static void say_store_fault(const char *path, const uint8_t *store, size_t store_len, tacho_fault f)
+{
+    size_t header = 4, count = store_len < header ? 0 : tacho_store_fault(store, header).position;
+    fprintf(stderr, "'%s': %s (%u): ", path, tacho_number_text(f.number), f.number);
+    if (store_len < header) fputs("there is no whole header\n", stderr);
+    else if (f.number == TACHO_STORE_SHORT || f.number == TACHO_STORE_BOUNDS)
+        fprintf(stderr, "the header's count of answers is %zu\n", count);
+    else if (f.number == TACHO_STORE_ENTRY && f.position == count)
+        fprintf(stderr, "the stream is longer than its answers, of which there are %zu\n", count);
+    else fprintf(stderr, "%s %zu of %zu, counted from 0\n", f.number == TACHO_STORE_ENTRY ? "entry" : "answer", f.position, count);
+}
+
+/* Checks the store and makes the unit. False with a message. */
+static bool ready(const settings *s, const uint8_t *store, size_t store_len, uint8_t *state)
+{
+    tacho_fault fault = tacho_store_fault(store, store_len);
+    if (fault.number != TACHO_OK) {
+        say_store_fault(s->store, store, store_len, fault);
+        return false;
+    }
+    uint8_t number = tacho_unit_fresh((uint8_t)s->kind, state, TACHO_UNIT_STATE);
+    if (number != TACHO_OK) fprintf(stderr, "--kind %lu: %s (%u)\n", s->kind, tacho_number_text(number), number);
+    return number == TACHO_OK;
 }
 
 /* What a checked store holds, as 00,31,32@86400: the status. */
@@ -135,10 +162,7 @@ int main(int argc, char **argv)
     if (s.help) return help_said(help);
     uint8_t *store = file_read(s.store, 1 << 20, &store_len);
     if (!store) return 2;
-    uint8_t number = tacho_store_check(store, store_len);
-    if (number == TACHO_OK) number = tacho_unit_fresh((uint8_t)s.kind, state, sizeof state);
-    if (number != TACHO_OK) {
-        fprintf(stderr, "'%s': %s (%u)\n", s.store, tacho_number_text(number), number);
+    if (!ready(&s, store, store_len, state)) {
         free(store);
         return 2;
     }

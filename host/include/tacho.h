@@ -8,7 +8,7 @@
  * many bytes behind it as its length says, and slices lent to one call do not overlap. A call keeps nothing of what it is lent, so
  * calls on different states and buffers may run at the same time.
  * `number` is 0 where nothing is refused; else it is one of the numbers below, the call has written nothing, and the other fields of its
- * result are zero. Numbers in bytes stand most significant byte first.
+ * result are zero, but for the position of a tacho_fault. Numbers in bytes stand most significant byte first.
  */
 #ifndef TACHO_H
 #define TACHO_H
@@ -26,25 +26,29 @@ _Static_assert(sizeof(size_t) == 8, "tacho.h is for 64-bit hosts");
 #endif
 
 /* The version of this interface: the first number grows where a name, a layout or a result changes, the second where calls are added. */
-#define TACHO_VERSION_MAJOR 1
+#define TACHO_VERSION_MAJOR 2
 #define TACHO_VERSION_MINOR 0
-#define TACHO_VERSION "1.0"
+#define TACHO_VERSION "2.0"
 
-/* Numbers: why a call is refused. */
+/* Numbers: why a call is refused. No call gives 5; 13 to 17 say what makes bytes no bench store. */
 enum {
     TACHO_OK = 0,
     TACHO_FRAME_COUNT = 1,       /* a frame with a wrong count of bytes; data to write that is empty or over 255 bytes */
     TACHO_FORMAT_OR_ADDRESS = 2, /* wrong first byte, or not from the other end to this one */
     TACHO_CHECKSUM = 3,          /* wrong checksum */
     TACHO_BUFFER_SHORT = 4,      /* the lent output or store buffer is too short */
-    TACHO_STORE_BROKEN = 5,      /* the bytes are no bench store */
     TACHO_NOT_HELD = 6,          /* the store does not hold the answer */
     TACHO_ALREADY_HELD = 7,      /* the store holds that answer already */
     TACHO_OVER_BOUND = 8,        /* over 64 answers, 60,000 stream bytes or 59,998 data bytes */
     TACHO_NOT_ARRAYS = 9,        /* the body is no run of record arrays */
     TACHO_NO_SUCH = 10,          /* no such array, record or sub message */
     TACHO_OUT_OF_TURN = 11,      /* impossible state, or a call out of turn */
-    TACHO_NOT_IN_TABLE = 12      /* the answer or request is not in the table of transfer types, or its day is not allowed */
+    TACHO_NOT_IN_TABLE = 12,     /* the answer or request is not in the table of transfer types, or its day is not allowed */
+    TACHO_STORE_SHORT = 13,      /* the buffer is shorter than its header says */
+    TACHO_STORE_BOUNDS = 14,     /* too many answers, or a stream over its bound */
+    TACHO_STORE_ENTRY = 15,      /* an entry's offset or length is wrong */
+    TACHO_STORE_ANSWER = 16,     /* an answer's first two bytes or its day are wrong */
+    TACHO_STORE_TWICE = 17       /* the same TREP and day twice */
 };
 
 /* Kinds of unit. */
@@ -113,6 +117,7 @@ enum {
 typedef struct { uint8_t number; size_t len; } tacho_written;            /* len bytes at the front of the output */
 typedef struct { uint8_t number; size_t start; size_t len; } tacho_part; /* that part of the bytes handed in */
 typedef struct { uint8_t number; size_t count; } tacho_counted;
+typedef struct { uint8_t number; size_t position; } tacho_fault;         /* number 0: position 0 */
 typedef struct { uint8_t number; uint8_t trep; uint32_t day; size_t start; size_t len; } tacho_held;
 typedef struct { uint8_t number; uint8_t type; uint16_t size; uint16_t count; size_t start; size_t len; } tacho_array;
 
@@ -144,22 +149,32 @@ tacho_written tacho_sub_message(const uint8_t *data, size_t data_len, uint8_t tr
 
 /* The bench store: an answer begins 76 and its TREP. A buffer whose first four bytes are zero is an empty store. */
 
-/* 0 for an unbroken store at the front of the buffer, else 5. */
+/* What makes the buffer no store, and where: number 0 for an unbroken store at its front. The checks run in the order of the numbers, each
+ * over all entries, from the first, before the next. Entries and answers count from zero. The position is
+ *   13  the header's count of answers; 0 for a buffer too short for its header
+ *   14  the header's count of answers
+ *   15  the first entry whose offset is not the sum of the lengths before it, whose length is under 2, or whose end is past the stream;
+ *       the count of answers where they end before the stream does
+ *   16  the first answer that does not begin 76 and a listed TREP, or whose day its TREP does not allow
+ *   17  the first answer with the TREP and day of an earlier one */
+tacho_fault tacho_store_fault(const uint8_t *store, size_t store_len);
+
+/* Its number: 0 for an unbroken store at the front of the buffer, else 13 to 17. */
 uint8_t tacho_store_check(const uint8_t *store, size_t store_len);
 
-/* The answer, as part of the buffer. Refused by 5, 6. */
+/* The answer, as part of the buffer. Refused by 13 to 17, 6. */
 tacho_part tacho_store_lookup(const uint8_t *store, size_t store_len, uint8_t trep, uint32_t day);
 
-/* The stream (DDP_034): all answers back to back. Refused by 5. */
+/* The stream (DDP_034): all answers back to back. Refused by 13 to 17. */
 tacho_part tacho_store_stream(const uint8_t *store, size_t store_len);
 
-/* How many answers the store holds. Refused by 5. */
+/* How many answers the store holds. Refused by 13 to 17. */
 tacho_counted tacho_store_count(const uint8_t *store, size_t store_len);
 
-/* Answer k, from zero: its TREP and day, and where it lies in the buffer. Refused by 5, 6 (no more than k answers). */
+/* Answer k, from zero: its TREP and day, and where it lies in the buffer. Refused by 13 to 17, 6 (no more than k answers). */
 tacho_held tacho_store_answer(const uint8_t *store, size_t store_len, size_t k);
 
-/* Puts the answer last; store is the whole buffer, len the store's new length, bytes behind it stay. Refused by 5, 12, 7, 8, 4. */
+/* Puts the answer last; store is the whole buffer, len the store's new length, bytes behind it stay. Refused by 13 to 17, 12, 7, 8, 4. */
 tacho_written tacho_store_append(uint8_t *store, size_t store_len, const uint8_t *answer, size_t answer_len, uint32_t day);
 
 /* Record arrays (generation 2): body is an answer without its 76 and TREP; arrays and records count from zero. */
@@ -178,7 +193,8 @@ tacho_part tacho_record_at(const uint8_t *body, size_t body_len, size_t array, s
 /* Writes the state of a fresh unit: closed, rate 1. Refused by 11 (kind), 4. Changes only the first TACHO_UNIT_STATE bytes. */
 uint8_t tacho_unit_fresh(uint8_t kind, uint8_t *state, size_t state_len);
 
-/* The unit hears a frame: changes the state, and writes the reply, len 0 for silence. Refused by 5, 11, 4 (reply under 260), 1, 2, 3. */
+/* The unit hears a frame: changes the state, and writes the reply, len 0 for silence. Refused by 13 to 17 (the store), 11, 4 (reply under
+ * 260), 1, 2, 3. */
 tacho_written tacho_unit_step(uint8_t *state, size_t state_len, const uint8_t *store, size_t store_len, const uint8_t *frame,
                               size_t frame_len, uint8_t *reply, size_t reply_len);
 

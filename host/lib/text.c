@@ -3,22 +3,26 @@
 
 const char *tacho_number_text(uint8_t number)
 {
-    static const char *const texts[] = {
-        "not refused",
-        "wrong count of bytes in a frame",
-        "wrong format or address in a frame",
-        "wrong checksum in a frame",
-        "a lent buffer is too short",
-        "the store breaks its rules",
-        "the answer is not held",
-        "the answer is held already",
-        "over 64 answers or 60,000 bytes",
-        "the body is no run of record arrays",
-        "no such array, record or sub message",
-        "impossible state, or a call out of turn",
-        "not in the table of transfer types, or its day is not allowed",
-    };
-    return number < sizeof texts / sizeof *texts ? texts[number] : "unknown number";
+    switch (number) {
+    case TACHO_OK: return "not refused";
+    case TACHO_FRAME_COUNT: return "wrong count of bytes in a frame";
+    case TACHO_FORMAT_OR_ADDRESS: return "wrong format or address in a frame";
+    case TACHO_CHECKSUM: return "wrong checksum in a frame";
+    case TACHO_BUFFER_SHORT: return "a lent buffer is too short";
+    case TACHO_NOT_HELD: return "the answer is not held";
+    case TACHO_ALREADY_HELD: return "the answer is held already";
+    case TACHO_OVER_BOUND: return "over 64 answers or 60,000 bytes";
+    case TACHO_NOT_ARRAYS: return "the body is no run of record arrays";
+    case TACHO_NO_SUCH: return "no such array, record or sub message";
+    case TACHO_OUT_OF_TURN: return "impossible state, or a call out of turn";
+    case TACHO_NOT_IN_TABLE: return "not in the table of transfer types, or its day is not allowed";
+    case TACHO_STORE_SHORT: return "the buffer is shorter than its header says";
+    case TACHO_STORE_BOUNDS: return "too many answers, or a stream over its bound";
+    case TACHO_STORE_ENTRY: return "an entry's offset or length is wrong";
+    case TACHO_STORE_ANSWER: return "an answer's first two bytes or its day are wrong";
+    case TACHO_STORE_TWICE: return "the same TREP and day twice";
+    default: return "unknown number";
+    }
 }
 
 const char *tacho_code_text(uint8_t code)

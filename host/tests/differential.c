@@ -6,6 +6,7 @@
  *   differential [ROUNDS [SEED]]
  */
 #include "reference.h"
+#include "spoilt.h"
 #include "support.h"
 
 #include <stdio.h>
@@ -16,18 +17,20 @@
 /* The longest buffers that are lent: stores and rooms with bytes to spare, and states that are some bytes too long. */
 enum { LONGEST = TACHO_STORE_MOST + 100, STATE_ROOM = 20 };
 
-/* The calls of tacho.h with the numbers of document 01 that each can give, 0 first, then in the order of its checks. */
+/* The calls of tacho.h with the numbers of documents 01 and 02 that each can give, 0 first, then in the order of its checks. */
 typedef enum {
-    CHECKSUM, FRAME_CHECK, FRAME_LENGTH, FRAME_DATA, FRAME_WRITE, SUB_MESSAGES, SUB_MESSAGE, STORE_CHECK, STORE_LOOKUP, STORE_STREAM,
-    STORE_COUNT, STORE_ANSWER, STORE_APPEND, ARRAY_COUNT, ARRAY_AT, RECORD_AT, UNIT_FRESH, UNIT_STEP, UNIT_KIND, UNIT_RATE, UNIT_PHASE,
-    TOOL_FRESH, TOOL_BEGIN, TOOL_ARRIVED, TOOL_WAIT_ENDED, TOOL_OUTCOME, TOOL_CODE, TOOL_EXPECTED, TOOL_HELD, CALLS
+    CHECKSUM, FRAME_CHECK, FRAME_LENGTH, FRAME_DATA, FRAME_WRITE, SUB_MESSAGES, SUB_MESSAGE, STORE_FAULT, STORE_CHECK, STORE_LOOKUP,
+    STORE_STREAM, STORE_COUNT, STORE_ANSWER, STORE_APPEND, ARRAY_COUNT, ARRAY_AT, RECORD_AT, UNIT_FRESH, UNIT_STEP, UNIT_KIND, UNIT_RATE,
+    UNIT_PHASE, TOOL_FRESH, TOOL_BEGIN, TOOL_ARRIVED, TOOL_WAIT_ENDED, TOOL_OUTCOME, TOOL_CODE, TOOL_EXPECTED, TOOL_HELD, CALLS
 } call;
 
-enum { NUMBERS = 13, END = -1 };
+enum { NUMBERS = 18, END = -1 };
+
+#define BROKEN 13, 14, 15, 16, 17 /* the numbers of a broken store */
 
 static const struct {
     const char *name;
-    int numbers[8];
+    int numbers[12];
 } CALL[CALLS] = {
     [CHECKSUM] = {"tacho_checksum", {0, END}}, /* it gives no number; 0 says that it was called */
     [FRAME_CHECK] = {"tacho_frame_check", {0, 1, 2, 3, END}},
@@ -36,17 +39,18 @@ static const struct {
     [FRAME_WRITE] = {"tacho_frame_write", {0, 1, 4, END}},
     [SUB_MESSAGES] = {"tacho_sub_messages", {0, 8, END}},
     [SUB_MESSAGE] = {"tacho_sub_message", {0, 8, 10, 4, END}},
-    [STORE_CHECK] = {"tacho_store_check", {0, 5, END}},
-    [STORE_LOOKUP] = {"tacho_store_lookup", {0, 5, 6, END}},
-    [STORE_STREAM] = {"tacho_store_stream", {0, 5, END}},
-    [STORE_COUNT] = {"tacho_store_count", {0, 5, END}},
-    [STORE_ANSWER] = {"tacho_store_answer", {0, 5, 6, END}},
-    [STORE_APPEND] = {"tacho_store_append", {0, 5, 12, 7, 8, 4, END}},
+    [STORE_FAULT] = {"tacho_store_fault", {0, BROKEN, END}},
+    [STORE_CHECK] = {"tacho_store_check", {0, BROKEN, END}},
+    [STORE_LOOKUP] = {"tacho_store_lookup", {0, BROKEN, 6, END}},
+    [STORE_STREAM] = {"tacho_store_stream", {0, BROKEN, END}},
+    [STORE_COUNT] = {"tacho_store_count", {0, BROKEN, END}},
+    [STORE_ANSWER] = {"tacho_store_answer", {0, BROKEN, 6, END}},
+    [STORE_APPEND] = {"tacho_store_append", {0, BROKEN, 12, 7, 8, 4, END}},
     [ARRAY_COUNT] = {"tacho_array_count", {0, 9, END}},
     [ARRAY_AT] = {"tacho_array_at", {0, 9, 10, END}},
     [RECORD_AT] = {"tacho_record_at", {0, 9, 10, END}},
     [UNIT_FRESH] = {"tacho_unit_fresh", {0, 11, 4, END}},
-    [UNIT_STEP] = {"tacho_unit_step", {0, 5, 11, 4, 1, 2, 3, END}},
+    [UNIT_STEP] = {"tacho_unit_step", {0, BROKEN, 11, 4, 1, 2, 3, END}},
     [UNIT_KIND] = {"tacho_unit_kind", {0, 11, END}}, /* a reader gives no number; 11 stands for TACHO_NO_STATE here */
     [UNIT_RATE] = {"tacho_unit_rate", {0, 11, END}},
     [UNIT_PHASE] = {"tacho_unit_phase", {0, 11, END}},
@@ -114,6 +118,11 @@ static result of_part(tacho_part p)
     return (result){p.number, {p.start, p.len}};
 }
 
+static result of_fault(tacho_fault f)
+{
+    return (result){f.number, {f.position}};
+}
+
 static result of_held(tacho_held h)
 {
     return (result){h.number, {h.start, h.len, h.trep, h.day}};
@@ -140,13 +149,6 @@ static uint8_t *lend(int i, const uint8_t *bytes, size_t len)
     if (len) memcpy(copy[i], at, len);
     if (len) memcpy(before[i], at, len);
     return at;
-}
-
-static void hex(const char *name, const uint8_t *b, size_t n)
-{
-    fprintf(stderr, "%s (%zu):", name, n);
-    for (size_t i = 0; i < n && i < 64; i++) fprintf(stderr, " %02X", b[i]);
-    fprintf(stderr, n > 64 ? " ..\n" : "\n");
 }
 
 static void show(const char *what, result r)
@@ -181,8 +183,6 @@ static void compare(call c, int buffers, result gave, result wanted)
 }
 
 /* Inputs */
-
-static const uint8_t TREPS[] = {0, 1, 2, 3, 4, 5, 0x21, 0x22, 0x23, 0x24, 0x25, 0x31, 0x32, 0x33, 0x35};
 
 static uint8_t some_trep(void)
 {
@@ -323,28 +323,41 @@ static size_t some_frame(uint8_t *f, bool to_tool, uint16_t near)
 static void some_answers(uint8_t *s, size_t room)
 {
     static uint8_t answer[60001];
-    static const uint8_t dated[] = {0x02, 0x22, 0x32};
     bool full = random_below(200) == 0;
     uint32_t answers = full ? 64 : random_below(3) ? random_below(5) : random_below(70);
     for (uint32_t i = 0; i < answers; i++) {
         size_t n = answers > 5 ? 2 + random_below(8) : 2 + some_length(random_below(20) ? 800 : 59998);
         random_bytes(answer, n);
         answer[0] = 0x76;
-        answer[1] = full ? dated[random_below(3)] : TREPS[random_below(sizeof TREPS)];
+        answer[1] = full ? DATED[random_below(sizeof DATED)] : TREPS[random_below(sizeof TREPS)];
         uint32_t day = full ? i : random_below(40);
         ref_store_append(s, room, answer, n, (answer[1] & 0x0F) == 2 ? 86400 * day : 0);
     }
 }
 
-/* A store, sometimes damaged or with bytes behind it. */
+/* A fault of any number at any entry, if it fits: the length of the buffer. */
+static size_t some_fault(uint8_t *s)
+{
+    uint32_t number = 13 + random_below(5);
+    fault f = {random_below(FAULTS), random_below((uint32_t)count_in(s)), 0};
+    while (FAULT[f.kind].number != number) f.kind = random_below(FAULTS);
+    f.first = random_below((uint32_t)f.at);
+    if (f.kind == STREAM_OVER) f.at = 60001;
+    if (f.kind == COUNT_OVER) f.at = 65;
+    if (!fault_fits(s, f)) return whole(s);
+    spoil_store(s, s, f);
+    return spoilt_len(s, f);
+}
+
+/* A store, sometimes with a fault, damaged or with bytes behind it. */
 static size_t some_store(uint8_t *s)
 {
     size_t room = random_below(4) ? 2000 : LONGEST;
     memset(s, 0, room);
     some_answers(s, room);
-    tacho_part stream = ref_store_stream(s, room);
-    size_t n = stream.start + stream.len, front = REF_STORE_HEADER + REF_STORE_ENTRY;
-    if (random_below(5) == 0) damage(s, &n, room);
+    size_t n = whole(s), front = REF_STORE_HEADER + REF_STORE_ENTRY;
+    if (random_below(6) == 0) n = some_fault(s);
+    if (random_below(6) == 0) damage(s, &n, room);
     if (random_below(4) == 0 && n + 20 < room) {
         random_bytes(s + n, 20);
         n += random_below(21);
@@ -555,6 +568,7 @@ static void stores(void)
     uint32_t day;
     size_t n = some_store(bytes);
     const uint8_t *s = lend(0, bytes, n);
+    compare(STORE_FAULT, 1, of_fault(tacho_store_fault(s, n)), of_fault(ref_store_fault(copy[0], n)));
     compare(STORE_CHECK, 1, of_number(tacho_store_check(s, n)), of_number(ref_store_check(copy[0], n)));
     name_in(bytes, n, &trep, &day);
     tacho_part p = tacho_store_lookup(s, n, trep, day), q = ref_store_lookup(copy[0], n, trep, day);

@@ -2,16 +2,19 @@
 #include "support.h"
 
 #include <stdarg.h>
+#include <stdbool.h>
 #include <stdio.h>
 #include <stdlib.h>
 #include <string.h>
 #include <sys/mman.h>
 #include <unistd.h>
 
-static uint64_t now = 1, first = 1;
+static uint64_t now = 1, first;
+static bool seeded;
 
 void random_seed(uint64_t seed)
 {
+    seeded = true;
     first = seed;
     now = seed * 2 + 1;
 }
@@ -68,6 +71,13 @@ void guard_check(const guard *g, const char *what)
         if (g->at[-(ptrdiff_t)i] != 0xA5) fail("%s: a byte %zu before the buffer was written", what, i);
 }
 
+void hex(const char *name, const uint8_t *b, size_t n)
+{
+    fprintf(stderr, "%s (%zu):", name, n);
+    for (size_t i = 0; i < n && i < 64; i++) fprintf(stderr, " %02X", b[i]);
+    fprintf(stderr, n > 64 ? " ..\n" : "\n");
+}
+
 void fail(const char *format, ...)
 {
     va_list args;
@@ -75,6 +85,7 @@ void fail(const char *format, ...)
     fflush(stdout);
     vfprintf(stderr, format, args);
     va_end(args);
-    fprintf(stderr, "\nseed %llu\n", (unsigned long long)first);
+    fputs("\n", stderr);
+    if (seeded) fprintf(stderr, "seed %llu\n", (unsigned long long)first);
     exit(1);
 }

@@ -23,7 +23,10 @@ void guard_make(guard *g, size_t room);
 uint8_t *guard_lend(guard *g, const uint8_t *bytes, size_t len); /* a copy of the bytes; bytes NULL: random ones */
 void guard_check(const guard *g, const char *what);
 
-/* Ends the test with a message. */
+/* Shows bytes on standard error, the first 64 of them. */
+void hex(const char *name, const uint8_t *b, size_t n);
+
+/* Ends the test with a message, and the seed where one was set. */
 _Noreturn void fail(const char *format, ...);
 
 #endif

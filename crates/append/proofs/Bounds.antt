@@ -12,7 +12,7 @@ use Rattle.catalog.specs.Table.{listed, knownTo, isActivities}
 use Rattle.catalog.specs.Name.{dayNamed, nameNumber}
 use Rattle.catalog.specs.declared.AnswerName.{AnswerName}
 use Rattle.store.specs.Layout.{narrow, headerSize, entrySize, entriesSize, answers, streamLength, storeLength}
-use Rattle.store.specs.Check.{headerFits, countsFit, filledTo, placesRight, answersRight, namesDiffer, storeNumber}
+use Rattle.store.specs.Check.{storeFault, headerFits, countsFit, filledTo, placesRight, answersRight, namesDiffer, storeNumber}
 use Rattle.store.specs.Answer.{answerNumber}
 use Rattle.store.specs.Contents.{Stored, backToBack, contents, InBytes, OfForm}
 use Rattle.store.specs.Claims.{Missing}
@@ -28,7 +28,7 @@ use Rattle.append.proofs.Theorems.{appended}
 use Rattle.append.proofs.Refusals.{append-taken, over-bound}
 
 pub w12-taken : appendNumber narrow (0x76 ∷ 0x00 ∷ 0x02 ∷ 0x02 ∷ []) 0 (replicate 16 0) ≡ 0
-unfolding appendNumber answerNumber roomNumber storeNumber headerFits countsFit placesRight answersRight namesDiffer filledTo firstFrom headerSize
+unfolding appendNumber answerNumber roomNumber storeNumber storeFault headerFits countsFit placesRight answersRight namesDiffer filledTo firstFrom headerSize
     entrySize entriesSize numberAt nameNumber dayNamed listed knownTo isActivities
 w12-taken = refl
 

@@ -2,14 +2,15 @@
 use Rattle.store.specs.Layout.{Form, Sized}
 use Rattle.append.specs.Claims.{NumberClaims, ListClaims, ReadBackClaims, AppendClaims}
 use Rattle.append.proofs.Theorems.{append-is, append-out, appended, appends}
-use Rattle.append.proofs.Refusals.{append-five, append-twelve, already-held, already-held-only, over-bound, over-bound-only}
+use Rattle.append.proofs.Refusals.{append-fault, append-not-five, append-twelve, already-held, already-held-only, over-bound, over-bound-only}
 use Rattle.append.proofs.Refusals.{buffer-short, buffer-short-only, append-taken, append-taken-only}
 use Rattle.append.proofs.Bounds.{fills, one-more}
 
 numbers : (f : Form) → NumberClaims f
 numbers f =
     record {
-      five = append-five f;
+      fault = append-fault f;
+      notFive = append-not-five f;
       twelve = append-twelve f;
       seven = λ a day s. (already-held-only f a day s, λ b. already-held f a day s (b .0) (b .1));
       eight = λ a day s. (over-bound-only f a day s, λ b. over-bound f a day s (b .0) (b .1));

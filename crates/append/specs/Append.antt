@@ -26,7 +26,7 @@ module _ (f : Form) where
       (unless (leb (storeLength f s + entrySize f + n) (length s)) bufferShort
       done))
 
-  -- "Appending: 5, 12, 7, 8, 4"
+  -- "Appending: 5, 12, 7, 8, 4", with the number of the fault for 5
   unfoldable pub appendNumber : List ℕ → ℕ → List ℕ → ℕ
   appendNumber answer day s =
       orElse (storeNumber f s)
@@ -53,7 +53,7 @@ module _ (f : Form) where
   unfoldable pub appendOut : List ℕ → ℕ → List ℕ → List ℕ
   appendOut answer day s = changedBy (appendNumber answer day s) (front (withAnswer answer day s) s) s
 
--- "Appending: 5, 12, 7, 8, 4", behind 5; bufferLen is the buffer's length
+-- "Appending: 5, 12, 7, 8, 4", behind the store's number; bufferLen is the buffer's length
 unfoldable pub appendNumberTo : Form → Stored → ℕ → List Stored → ℕ
 appendNumberTo f g bufferLen gs =
     orElse (answerNumber (g .answer) (g .day))

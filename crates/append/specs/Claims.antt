@@ -6,7 +6,7 @@ use mathlib.Core.List.{List, [], _∷_, _++_}
 use mathlib.Core.Logic.{_↔_, _⊎_, _≢_}
 use mathlib.Core.Path.{_≡_}
 use lib.ListN.{length, getD}
-use Rattle.octets.specs.Numbers.{done, bufferShort, storeBroken, alreadyHeld, overBound, notInTable}
+use Rattle.octets.specs.Numbers.{done, bufferShort, alreadyHeld, overBound, notInTable}
 use Rattle.octets.specs.Buffer.{front}
 use Rattle.catalog.specs.Name.{nameNumber}
 use Rattle.catalog.specs.declared.AnswerName.{AnswerName}
@@ -15,13 +15,14 @@ use Rattle.store.specs.Check.{storeNumber}
 use Rattle.store.specs.Read.{lookupNumber, lookupPart, streamPart}
 use Rattle.store.specs.Answer.{nameOf, answerNumber}
 use Rattle.store.specs.Contents.{Stored, nameFor, nothing, backToBack, storeOf, contents, InBytes, OfForm}
-use Rattle.store.specs.Claims.{Broken, Unlisted, HeldAs, Missing}
+use Rattle.store.specs.Faults.{IsFault}
+use Rattle.store.specs.Claims.{Unlisted, HeldAs, Missing}
 use Rattle.append.specs.Append.{appendNumber, appendOut, appendNumberTo}
 
 -- Numbers
 
 module _ (f : Form) where
-  -- "Appending: 5, 12, 7, 8, 4": refused by neither 5 nor 12
+  -- "Appending: 5, 12, 7, 8, 4", with the number of the store's fault for 5: refused neither for the store nor by 12
   pub record Judged (answer : List ℕ) (day : ℕ) (s : List ℕ) : Type 0 where
     pub unbroken : storeNumber f s ≡ done
     pub listed : answerNumber answer day ≡ done
@@ -38,10 +39,13 @@ module _ (f : Form) where
     pub stream : streamLength f s + length answer ≤ f .streamMost
 
 module _ (f : Form) where
-  -- "Appending: 5, 12, 7, 8, 4": each of them where those before it do not refuse
+  -- "Appending: 5, 12, 7, 8, 4", with the number of the store's fault for 5: each of them where those before it do not
+  -- refuse
   pub record NumberClaims : Type 0 where
-    -- "5: store breaks its rules"
-    pub five : (answer : List ℕ) (day : ℕ) (s : List ℕ) → (appendNumber f answer day s ≡ storeBroken) ↔ Broken f s
+    -- "Wherever 5 was given, exactly one of these is given now" (document 02, Req 06): the number of the store's fault
+    pub fault : (answer : List ℕ) (day : ℕ) (s : List ℕ) (k : ℕ) → IsFault k
+        → (appendNumber f answer day s ≡ k) ↔ (storeNumber f s ≡ k)
+    pub notFive : (answer : List ℕ) (day : ℕ) (s : List ℕ) → appendNumber f answer day s ≢ 5
     pub twelve : (answer : List ℕ) (day : ℕ) (s : List ℕ)
         → (appendNumber f answer day s ≡ notInTable) ↔ ((storeNumber f s ≡ done) × Unlisted answer day)
     -- "7: answer already held"

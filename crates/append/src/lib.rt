@@ -103,7 +103,7 @@ fn put_last(store: &mut [u8], answer: &[u8], day: u32)
 
 // Puts the answer, 76 and TREP included, last in the store, under its TREP and this day. `len` is the store's new
 // length.
-// Refused by 5, 12, 7, 8 and 4, in this order; then the buffer is as it was.
+// Refused by the number of a broken store, 12, 7, 8 and 4, in this order; then the buffer is as it was.
 pub fn append(store: &mut [u8], answer: &[u8], day: u32) -> Written
     ensures { λ r. ⌜ r ≡ appendResult narrow (now (answer .entry)) day (now (store .entry)) ⌝ }
     ensures { λ _. ⌜ now (store .exit) ≡ appendOut narrow (now (answer .entry)) day (now (store .entry)) ⌝ }

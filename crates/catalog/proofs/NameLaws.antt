@@ -6,7 +6,7 @@ use lib.Dec.{eqb}
 use borrow.Author.Tests.{eq-eqb, ne-eqb, eqb-true}
 use Rattle.octets.proofs.Tests.{and-left, and-right, and-false}
 use Rattle.octets.proofs.OrderLaws.{unless-is}
-use Rattle.catalog.specs.Table.{knownTo, listed}
+use Rattle.catalog.specs.Table.{listed}
 use Rattle.catalog.specs.Name.{dayNamed, sameAnswer, nameNumber}
 use Rattle.catalog.specs.declared.AnswerName.{AnswerName}
 
@@ -37,11 +37,6 @@ same-not a b n = go (sameAnswer a b) refl
 pub other-day : (a b : AnswerName) → (a .day ≡ b .day → ⊥) → sameAnswer a b ≡ false
 unfolding sameAnswer
 other-day a b h = and-false (eqb (a .trep) (b .trep)) _ (ne-eqb (a .day) (b .day) h)
-
--- FF is no TREP
-pub absent-unlisted : listed 0xFF ≡ false
-unfolding listed knownTo
-absent-unlisted = refl
 
 -- a name that 12 allows is listed and its day may be named
 pub allowed : (name : AnswerName) → nameNumber name ≡ 0 → (listed (name .trep) ≡ true) × (dayNamed name ≡ true)

@@ -33,6 +33,10 @@ knownTo kind byte = not (eqb byte absent) && anyOf (λ type. eqb (trtpOf type ki
 unfoldable pub listed : ℕ → Bool
 listed byte = knownTo 0 byte || (knownTo 1 byte || knownTo 2 byte)
 
+-- in that row, at any kind
+abbrev pub inRow : ℕ → ℕ → Bool
+inRow byte type = (eqb (trtpOf type 0) byte || eqb (trtpOf type 1) byte) || eqb (trtpOf type 2) byte
+
 -- "Activities carry a day": the third row
 unfoldable pub isActivities : ℕ → Bool
-isActivities byte = not (eqb byte absent) && ((eqb (trtpOf 2 0) byte || eqb (trtpOf 2 1) byte) || eqb (trtpOf 2 2) byte)
+isActivities byte = not (eqb byte absent) && inRow byte 2

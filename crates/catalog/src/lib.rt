@@ -1,7 +1,7 @@
 // Transfer types by kind of unit (document 01, Transfer types; DDP_011), and the names of answers.
 use octets::numbers::NOT_IN_TABLE;
 ghost use mathlib.Core.Path.{_≡_};
-ghost use Rattle.catalog.specs.Table.{trtpOf, knownTo, listed, isActivities};
+ghost use Rattle.catalog.specs.Table.{trtpOf, knownTo, listed, inRow, isActivities};
 ghost use Rattle.catalog.specs.Name.{dayAllowed, dayNamed, firstSecond, sameAnswer, nameNumber};
 
 // The kinds of unit.
@@ -72,34 +72,40 @@ pub fn trtp(row: u8, kind: u8) -> u8
     TRTP[i]
 }
 
-// Whether a unit of this kind knows the TRTP.
+// Whether a unit of this kind knows the TRTP. Every TRTP of the table has its row as low digit, so it is looked for
+// there alone.
 pub fn known_to(kind: u8, byte: u8) -> bool
     ensures { λ r. ⌜ r ≡ knownTo kind byte ⌝ }
 {
     if byte == ABSENT {
         return false;
     }
-    let mut row: u8 = 0;
-    while row < TRANSFER_TYPES {
-        if trtp(row, kind) == byte {
-            return true;
-        }
-        row += 1;
-    }
-    false
+    trtp(byte % 16, kind) == byte
 }
 
-// Whether any kind knows the TRTP.
+// Whether the byte stands in this row, at any kind.
+fn in_row(row: u8, byte: u8) -> bool
+    ensures { λ r. ⌜ r ≡ inRow byte row ⌝ }
+{
+    (trtp(row, GENERATION_1) == byte)
+        | (trtp(row, GENERATION_2_VERSION_1) == byte)
+        | (trtp(row, GENERATION_2_VERSION_2) == byte)
+}
+
+// Whether any kind knows the TRTP. With every row named, the compiler makes one test of bits of the whole table
+// (docs/PERFORMANCE.md).
 pub fn is_listed(byte: u8) -> bool
     ensures { λ r. ⌜ r ≡ listed byte ⌝ }
 {
-    if known_to(GENERATION_1, byte) {
-        return true;
+    if byte == ABSENT {
+        return false;
     }
-    if known_to(GENERATION_2_VERSION_1, byte) {
-        return true;
-    }
-    known_to(GENERATION_2_VERSION_2, byte)
+    in_row(0, byte)
+        | in_row(1, byte)
+        | in_row(2, byte)
+        | in_row(3, byte)
+        | in_row(4, byte)
+        | in_row(5, byte)
 }
 
 // Whether it is a TRTP of activities, which carry a day.
@@ -109,7 +115,7 @@ pub fn is_activities(byte: u8) -> bool
     if byte == ABSENT {
         return false;
     }
-    (trtp(ACTIVITIES, 0) == byte) | (trtp(ACTIVITIES, 1) == byte) | (trtp(ACTIVITIES, 2) == byte)
+    in_row(ACTIVITIES, byte)
 }
 
 // The first second of the day that a second falls in.

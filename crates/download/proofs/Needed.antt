@@ -95,7 +95,7 @@ record Needed : Type 0 where
       (arrivesAtUnit (call store12) ∷ lineChanges toolEnd 0 (spoiled (subFrame lab 0x00 1 (0x01 ∷ 0x01 ∷ []))) ∷ arrivesAtTool 260 ∷ [])) Done books.waiting
   -- On a clean line. The unit's state is possible: 11
   possible : Stuck (after (record { kind = 2; rate = 0; pending = 0; phase = Granted }) four 260 (arrivesAtUnit (call store12) ∷ []))
-  -- the store is unbroken: 5
+  -- the store is unbroken: 13 to 17
   unbroken : Stuck (after (v2 Granted) four 260 (arrivesAtUnit (call []) ∷ []))
   -- the answer that is being sent is unchanged: it is gone, so 11
   sending : Stuck (after (v2 (Sending (record { trep = 0x31; day = 0 }) (sub 1))) four 260 (arrivesAtUnit (call store12) ∷ []))

@@ -8,7 +8,8 @@ use Rattle.split.specs.Split.{countOf, carries, subField, subFrame}
 use Rattle.split.specs.Join.{isAnswer, receivedAs, carriedBy}
 use Rattle.octets.specs.Search.{firstFrom}
 use Rattle.store.specs.Layout.{headerSize, entrySize, entriesSize, nameAt}
-use Rattle.store.specs.Check.{headerFits, countsFit, filledTo, placeRight, placesRight, answerRight, answersRight, repeats, namesDiffer, storeNumber}
+use Rattle.store.specs.Check.{headerFits, countsFit, filledTo, placeRight, placesRight, answerRight, answersRight, repeats, namesDiffer}
+use Rattle.store.specs.Check.{storeFault, storeNumber}
 use Rattle.store.specs.Read.{lookupNumber, lookupPlace, lookupPart}
 use Rattle.services.specs.State.{sendable, phasePossible, possibleAt}
 use Rattle.unit.specs.State.{possible}
@@ -28,7 +29,7 @@ use Rattle.tool.specs.Call.{requestNumber, beginNumber, beginState, beginSent, 
 -- a lookup in a store
 unfoldable pub lookups : Unit {0}
 unfolding numberAt firstFrom headerSize entrySize entriesSize nameAt headerFits countsFit filledTo placeRight placesRight answerRight answersRight
-    repeats namesDiffer storeNumber lookupNumber lookupPlace lookupPart knownTo listed isActivities firstSecond dayNamed sameAnswer nameNumber
+    repeats namesDiffer storeFault storeNumber lookupNumber lookupPlace lookupPart knownTo listed isActivities firstSecond dayNamed sameAnswer nameNumber
 lookups = tt
 
 -- calls of both ends

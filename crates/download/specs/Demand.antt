@@ -36,7 +36,7 @@ use Rattle.download.specs.CableEnds.{UnitGiven, cableEnds, refused, tool
 
 -- The premises
 
--- the store is unbroken (else 5) and holds an answer of that name (else 6), with these bytes
+-- the store is unbroken (else 13 to 17) and holds an answer of that name (else 6), with these bytes
 pub record Holds (store : List ℕ) (name : AnswerName) (answer : List ℕ) : Type 0 where
   pub held : lookupNumber narrow name store ≡ 0
   pub bytes : lookupPart narrow name store ≡ answer

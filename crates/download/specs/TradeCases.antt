@@ -26,7 +26,7 @@ use Rattle.unit.specs.Call.{unitReply}
 use Rattle.progress.specs.declared.Request.the-variants as requests
 use Rattle.requests.specs.Sent.{transferRequest, acknowledgement, frameSent}
 
--- a unit's call that neither 5 nor 11 nor 4 refuses
+-- a unit's call that is refused neither for its store nor by 11 or 4
 pub record Called (store : List ℕ) (u : UnitState) (outLen : ℕ) : Type 0 where
   pub unbroken : storeNumber narrow store ≡ 0
   pub possible : unitStates.possible store u ≡ true

@@ -7,7 +7,7 @@ use native.Mathlib.Omega.{arith}
 use lib.Dec.{leb, ltb, eqb}
 use lib.ListN.{length, getD, take}
 use borrow.Author.Tests.{lt-ltb, le-ltb, eq-eqb, ne-eqb, leb-true, eqb-true}
-use Rattle.octets.proofs.OrderLaws.{unless-is}
+use Rattle.octets.proofs.OrderLaws.{unless-is, unless-most}
 use Rattle.octets.proofs.Tests.{and-right}
 use Rattle.octets.proofs.CallLaws.{place-refused}
 use Rattle.octets.specs.Numbers.{refusedPlace}
@@ -63,6 +63,17 @@ good a end s e =
 pub good-sum : (a : Addresses) (end : End) (s : List ℕ) → judged a end s ≡ 0 → checksumOf (take (length s - 1) s) ≡ getD s (length s - 1) 0
 unfolding checksumRight
 good-sum a end s e = eqb-true _ _ (good a end s e .sum)
+
+-- the frame's numbers are 0 to 3
+pub judged-most : (a : Addresses) (end : End) (s : List ℕ) → judged a end s ≤ 3
+unfolding judged
+judged-most a end s =
+    unless-most (leb 5 (length s)) 1 _ 3 (omega arith)
+    (unless-most (knownFormat (getD s 0 0)) 2 _ 3 (omega arith)
+    (unless-most (countRight s) 1 _ 3 (omega arith)
+    (unless-most (addressed a end s) 2 _ 3 (omega arith)
+    (unless-most (checksumRight s) 3 0 3 (omega arith)
+    (omega arith)))))
 
 -- its length is LEN + 5, or 5 in the form without LEN
 pub count-start : (s : List ℕ) → countRight s ≡ true → isStart s ≡ true → length s ≡ 5

@@ -48,7 +48,7 @@ turn-taken false n before size b state none z = absurd (let e = or-zero before 1
 
 -- The unit
 
--- bytes that are no state: "5, 11", whatever follows
+-- bytes that are no state: 11 behind the store's number, whatever follows
 pub unit-impossible : (store : List ℕ) (room : ℕ) (b f : List ℕ) → isUnit b ≡ false
     → unitNumber lab store room (unpackedUnit b) f ≡ orElse (storeNumber narrow store) 11
 unfolding unitNumber numberBefore unit-state.possible possibleAt

@@ -10,6 +10,7 @@ use Rattle.arrival.specs.Meaning.{arrivalMeaning, arrivalBytes}
 use Rattle.states.specs.Packed.{unpackedTool}
 use Rattle.host.specs.Claims.{HostClaims}
 use Rattle.host.proofs.Theorems.{unit-refused-result, unit-refused-state, unit-refused-reply, unit-no-state, unit-fresh-refused, tool-fresh-refused}
+use Rattle.host.proofs.Theorems.{step-fault, step-not-five}
 use Rattle.host.proofs.Theorems.{begin-refused-result, begin-refused-state, begin-refused-out, begin-no-state}
 use Rattle.host.proofs.Theorems.{event-refused-result, event-refused-state, event-refused-room, event-refused-out, event-no-state}
 
@@ -50,6 +51,8 @@ claims =
             stateKept = event-refused-state b room out [] FailedWait _ refl no;
             outKept = event-refused-out b room out [] FailedWait _ refl no;
           };
+      stepFault = step-fault;
+      stepNotFive = step-not-five;
       stepNoState = λ b store f reply h unbroken. unit-no-state b store f reply unbroken h;
       beginNoState = λ b request name out h r s. begin-no-state b out request name r s h;
       arrivalNoState = λ b f room out. event-no-state b room out (adds b f) (means b f (length room));

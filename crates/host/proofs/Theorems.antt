@@ -1,23 +1,31 @@
 -- What the header promises of every refusal: the call has written nothing, and the other fields of its result are zero; and that bytes
 -- that are no state are refused by 11.
-use Prim.Native.Nat.{ℕ, _≤_}
+use Prim.Native.Nat.{ℕ, _<_, _≤_}
 use mathlib.Core.Bool.{Bool, true, false}
 use mathlib.Core.List.{List}
+use mathlib.Core.Logic.{_↔_}
 use mathlib.Core.Path.{_≡_, refl, _∙_}
 use native.Mathlib.Omega.{arith}
 use lib.Dec.{leb}
 use lib.ListN.{length}
-use borrow.Author.Tests.{ne-eqb, le-leb}
+use borrow.Author.Tests.{ne-eqb, le-leb, eqb-false}
+use Rattle.octets.specs.Order.{unless}
 use Rattle.octets.specs.Numbers.{notInTable}
 use Rattle.octets.specs.Buffer.{front}
-use Rattle.frame.specs.Frame.{lab}
+use Rattle.octets.proofs.OrderLaws.{unless-is, unless-most, or-is, or-first}
+use Rattle.frame.specs.Frame.{lab, judged}
+use Rattle.frame.specs.declared.End.the-variants as ends
+use Rattle.frame.proofs.CheckLaws.{judged-most}
 use Rattle.catalog.specs.declared.AnswerName.{AnswerName}
 use Rattle.store.specs.Layout.{narrow}
 use Rattle.store.specs.Check.{storeNumber}
-use Rattle.unit.specs.Call.{unitReply, unitResult, unitOut}
+use Rattle.store.specs.Faults.{IsFault}
+use Rattle.store.proofs.Refusals.{fault-first, store-not-five}
+use Rattle.unit.specs.State.{possible}
+use Rattle.unit.specs.Call.{numberBefore, unitNumber, unitReply, unitResult, unitOut}
 use Rattle.arrival.specs.declared.Meaning.{Meaning}
 use Rattle.tool.specs.Call.{requestNumber, beginNumber, beginSent, beginResult, beginOut, eventSent, eventRoom, eventResult, eventOut}
-use Rattle.states.specs.Packed.{isUnit, requestFrom, isTool, unpackedTool}
+use Rattle.states.specs.Packed.{isUnit, unpackedUnit, requestFrom, isTool, unpackedTool}
 use Rattle.host.specs.Calls.{unitFreshNumber, unitFreshState, unitHanded, unitKept, unitStep, unitStepReply}
 use Rattle.host.specs.Calls.{toolFreshNumber, toolFreshState, toolHanded, toolKept, toolBegin, toolBeginOut}
 use Rattle.host.specs.Claims.{refusal}
@@ -38,7 +46,32 @@ module _ (b store f reply : List ℕ) (n : ℕ) (is : unitStep b store (length r
   unfolding unitOut unitReply unitResult front
   unit-refused-reply = rw (is, ne-eqb n 0 refused)
 
--- "Packed state bytes that are no state count as impossible": 11, behind 5
+-- the number of a broken store before any other, and 5 nowhere
+module _ (b store f reply : List ℕ) where
+  abbrev room : Bool
+  room = leb 260 (length reply)
+
+  -- 11 and 4 behind the store, the frame's numbers behind these
+  turn-most : (k : ℕ) → 11 < k → unless (possible store (unpackedUnit b)) 11 (unless room 4 0) ≡ k → ⊥
+  turn-most k h e =
+      omega (arith, unless-most (possible store (unpackedUnit b)) 11 (unless room 4 0) 11 (omega arith) (unless-most room 4 0 11 (omega arith) (omega arith)))
+
+  pub step-fault : (k : ℕ) → IsFault k → (unitStep b store (length reply) f .number ≡ k) ↔ (storeNumber narrow store ≡ k)
+  unfolding unitResult unitNumber numberBefore
+  step-fault k q =
+      let frame = or-first _ (judged lab ends.Unit f) k (ne-eqb k 0 (λ z. omega (arith, q .0))) (λ e. omega (arith, judged-most lab ends.Unit f, q .0)) in
+      let before = fault-first narrow store _ k q (turn-most k (omega (arith, q .0))) in
+      ((λ e. before .0 (frame .0 e)), (λ e. frame .1 (before .1 e)))
+
+  pub step-not-five : unitStep b store (length reply) f .number ≡ 5 → ⊥
+  unfolding unitResult unitNumber numberBefore
+  step-not-five e =
+      let frame = or-first _ (judged lab ends.Unit f) 5 refl (λ z. omega (arith, judged-most lab ends.Unit f)) .0 e in
+      let turn = or-is (storeNumber narrow store) _ 5 (store-not-five narrow store) frame .rest in
+      let size = unless-is (possible store (unpackedUnit b)) 11 _ 5 refl turn .rest in
+      eqb-false 0 5 refl (unless-is room 4 0 5 refl size .rest)
+
+-- "Packed state bytes that are no state count as impossible": 11, behind the store's number
 pub unit-no-state : (b store f reply : List ℕ) → storeNumber narrow store ≡ 0 → isUnit b ≡ false
     → unitHanded (unitStep b store (length reply) f) ≡ refusal 11
 unfolding unitResult

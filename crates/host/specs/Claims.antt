@@ -3,7 +3,7 @@
 use Prim.Native.Nat.{ℕ, _≤_}
 use mathlib.Core.Bool.{false}
 use mathlib.Core.List.{List}
-use mathlib.Core.Logic.{_≢_}
+use mathlib.Core.Logic.{_↔_, _≢_}
 use mathlib.Core.Path.{_≡_}
 use lib.ListN.{length}
 use Rattle.octets.specs.Numbers.{done, outOfTurn}
@@ -11,6 +11,7 @@ use Rattle.octets.specs.declared.Written.{Written}
 use Rattle.catalog.specs.declared.AnswerName.{AnswerName}
 use Rattle.store.specs.Layout.{narrow}
 use Rattle.store.specs.Check.{storeNumber}
+use Rattle.store.specs.Faults.{IsFault}
 use Rattle.unit.specs.declared.UnitReply.{UnitReply}
 use Rattle.tool.specs.declared.ToolStep.{ToolStep}
 use Rattle.tool.specs.Call.{requestNumber}
@@ -79,7 +80,13 @@ pub record HostClaims : Type 0 where
   pub arrivalRefused : (state frame room out : List ℕ) → arrived state frame room out .number ≢ done
       → ArrivalRefused state frame room out
   pub waitRefused : (state room out : List ℕ) → waited state room out .number ≢ done → WaitRefused state room out
-  -- "Packed state bytes that are no state count as impossible": 11, behind 5 of the unit and behind 12 of a begin
+  -- "Wherever 5 was given, exactly one of these is given now" (document 02, Req 06): the unit gives the number of a
+  -- broken store before any other, and 5 nowhere
+  pub stepFault : (state store frame reply : List ℕ) (k : ℕ) → IsFault k
+      → (stepped state store frame reply .number ≡ k) ↔ (storeNumber narrow store ≡ k)
+  pub stepNotFive : (state store frame reply : List ℕ) → stepped state store frame reply .number ≢ 5
+  -- "Packed state bytes that are no state count as impossible": 11, behind a broken store at the unit and behind 12 of
+  -- a begin
   pub stepNoState : (state store frame reply : List ℕ) → isUnit state ≡ false → storeNumber narrow store ≡ done
       → unitHanded (stepped state store frame reply) ≡ refusal outOfTurn
   pub beginNoState : (state : List ℕ) (request : ℕ) (name : AnswerName) (out : List ℕ) → isTool state ≡ false

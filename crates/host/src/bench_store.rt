@@ -3,9 +3,10 @@ use catalog::AnswerName;
 use octets::Counted;
 use octets::Place;
 use octets::Written;
+use store::Fault;
 ghost use mathlib.Core.Path.{_≡_};
 ghost use Rattle.store.specs.Layout.{narrow};
-ghost use Rattle.store.specs.Check.{storeNumber};
+ghost use Rattle.store.specs.Check.{storeFault, storeNumber};
 ghost use Rattle.store.specs.Read.{lookupPlace, streamPlace, countHeld, heldAnswer};
 ghost use Rattle.append.specs.Append.{appendResult, appendOut};
 ghost use Rattle.host.specs.Held.{heldOf};
@@ -20,7 +21,15 @@ pub struct Held {
     pub len: usize,
 }
 
-// 0 for an unbroken store, else 5.
+// What is broken in the store, and where.
+#[no_mangle]
+pub extern "C" fn tacho_store_fault(store: &[u8]) -> Fault
+    ensures { λ r. ⌜ r ≡ storeFault narrow (now (store .entry)) ⌝ }
+{
+    store::check::fault(store)
+}
+
+// 0 for an unbroken store, else the number of its fault.
 #[no_mangle]
 pub extern "C" fn tacho_store_check(store: &[u8]) -> u8
     ensures { λ r. ⌜ r ≡ storeNumber narrow (now (store .entry)) ⌝ }

@@ -26,7 +26,8 @@ pub extern "C" fn tacho_unit_fresh(kind: u8, state: &mut [u8]) -> u8
     0
 }
 
-// The unit hears a frame. Refused by 5, 11, 4 and the frame's numbers, in this order; then state and reply stay.
+// The unit hears a frame. Refused by the number of a broken store, 11, 4 and the frame's numbers, in this order; then
+// state and reply stay.
 #[no_mangle]
 pub extern "C" fn tacho_unit_step(
     state: &mut [u8],

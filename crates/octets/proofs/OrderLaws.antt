@@ -1,7 +1,7 @@
 -- Checks in order, read backwards from the number that they give.
-use Prim.Native.Nat.{ℕ}
+use Prim.Native.Nat.{ℕ, _≤_}
 use mathlib.Core.Bool.{Bool, true, false, cond}
-use mathlib.Core.Logic.{_⊎_, inl, inr}
+use mathlib.Core.Logic.{_↔_, _⊎_, inr}
 use mathlib.Core.Path.{_≡_, refl}
 use lib.Dec.{eqb}
 use borrow.Author.Tests.{eqb-true, eqb-false}
@@ -31,6 +31,11 @@ pub unless-either : (holds : Bool) (k rest : ℕ) → (rest ≡ 0) ⊎ (rest ≡
 unless-either true k rest h = h
 unless-either false k rest h = inr refl
 
+-- a bound of all refusals
+pub unless-most : (holds : Bool) (k rest most : ℕ) → k ≤ most → rest ≤ most → unless holds k rest ≤ most
+unless-most true k rest most a b = b
+unless-most false k rest most a b = a
+
 -- number 0 comes from both groups of checks
 pub or-zero : (a b : ℕ) → orElse a b ≡ 0 → Both (a ≡ 0) (b ≡ 0)
 or-zero a b e = go (eqb a 0) refl e
@@ -39,10 +44,21 @@ or-zero a b e = go (eqb a 0) refl e
     go true p q = record { first = eqb-true a 0 p; rest = q }
     go false p q = absurd (eqb-false a 0 p q)
 
--- numbers before that are 0 or j leave k to the rest
-pub or-is : (a j b k : ℕ) → (a ≡ 0) ⊎ (a ≡ j) → eqb j 0 ≡ false → eqb j k ≡ false → orElse a b ≡ k → Both (a ≡ 0) (b ≡ k)
-or-is a j b k (inl z) n m e = record { first = z; rest = rw z at e }
-or-is a j b k (inr q) n m e = absurd (eqb-false j k m (rw (q, n) at e))
+-- numbers before that are not k leave k to the rest
+pub or-is : (a b k : ℕ) → (a ≡ k → ⊥) → orElse a b ≡ k → Both (a ≡ 0) (b ≡ k)
+or-is a b k n e = go (eqb a 0) refl e
+  where
+    go : (t : Bool) → eqb a 0 ≡ t → cond t b a ≡ k → Both (a ≡ 0) (b ≡ k)
+    go true p q = record { first = eqb-true a 0 p; rest = q }
+    go false p q = absurd (n q)
+
+-- and give k, if the rest does not
+pub or-first : (a b k : ℕ) → eqb k 0 ≡ false → (b ≡ k → ⊥) → (orElse a b ≡ k) ↔ (a ≡ k)
+or-first a b k known other = (go (eqb a 0) refl, (λ e. rw (e, known)))
+  where
+    go : (t : Bool) → eqb a 0 ≡ t → cond t b a ≡ k → a ≡ k
+    go true p q = absurd (other q)
+    go false p q = q
 
 -- what follows a check that fails is not asked
 pub or-refused : (a k b : ℕ) → eqb k 0 ≡ false → orElse (orElse a k) b ≡ orElse a k

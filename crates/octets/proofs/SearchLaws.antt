@@ -1,11 +1,11 @@
 -- The first place where a test holds: a search a turn at a time, and what its end says of the places below.
 use Prim.Native.Nat.{ℕ, zero, suc, _+_, _-_, _<_, _≤_}
-use mathlib.Core.Bool.{Bool, true, false, cond}
+use mathlib.Core.Bool.{Bool, true, false, cond, _||_}
 use mathlib.Core.Path.{_≡_, refl, sym, ap, _∙_}
 use native.Mathlib.Omega.{arith}
 use native.Mathlib.Nat.{sub-zero}
 use native.Mathlib.Decide.{decLt}
-use borrow.Author.Tests.{lt-ltb, le-ltb, ltb-false, not-true}
+use borrow.Author.Tests.{lt-ltb, le-ltb, ltb-true, ltb-false, not-true, not-false}
 use Rattle.octets.specs.Search.{firstFrom, firstOf, anyOf, noneOf}
 use Rattle.octets.proofs.Tests.{never}
 
@@ -30,17 +30,18 @@ module _ (test : ℕ → Bool) (n i : ℕ) (whole : firstOf test n ≡ firstFrom
     pub search-miss : test i ≡ false → firstOf test n ≡ firstFrom test (n - (i + 1)) (i + 1)
     search-miss h = turn ∙ rw h
 
-    pub any-hit : test i ≡ true → true ≡ anyOf test n
-    any-hit h = rw (search-hit h) (sym (lt-ltb i n more))
-
     pub none-hit : test i ≡ true → false ≡ noneOf test n
     none-hit h = rw (search-hit h, lt-ltb i n more)
 
-  pub any-end : n ≤ i → false ≡ anyOf test n
-  any-end h = rw (search-end h) (sym (le-ltb i n h))
-
   pub none-end : n ≤ i → true ≡ noneOf test n
   none-end h = rw (search-end h, le-ltb i n h)
+
+-- where the search ended; where it goes over the places below m, by the n that the code has for m
+pub found-at : (test : ℕ → Bool) (n i : ℕ) → firstOf test n ≡ i → i ≡ firstOf test n
+found-at test n i e = sym e
+
+pub found-by : (test : ℕ → Bool) (n m i : ℕ) → n ≡ m → firstOf test n ≡ i → i ≡ firstOf test m
+found-by test n m i p e = rw (← p) (sym e)
 
 -- What the first place of k from i on says
 
@@ -124,12 +125,45 @@ module _ (test : ℕ → Bool) (n : ℕ) where
         | no l ↦ omega (arith, first-most)
       ]
 
+  -- where it holds at one: that is below n, and it holds at none before
+  pub first-facts : (p : ℕ) → firstOf test n ≡ p → noneOf test n ≡ false → (p < n) × ((j : ℕ) → j < p → test j ≡ false) × (test p ≡ true)
+  first-facts p e h =
+      let l : firstOf test n < n = ltb-true (firstOf test n) n (not-false _ h) in
+      (omega arith, λ j b. first-before j (omega arith), rw e at (first-holds l))
+
   -- none of them exactly where each fails
   pub none-at : noneOf test n ≡ true → (j : ℕ) → j < n → test j ≡ false
   none-at h j l = first-before j (omega (arith, ltb-false (firstOf test n) n (not-true _ h)))
 
   pub none-built : ((j : ℕ) → j < n → test j ≡ false) → noneOf test n ≡ true
   none-built none = rw (first-none none, le-ltb n n (omega arith))
+
+-- it holds at none of no places; at one of n + 1 where it does at one of the first n or at the last
+pub any-none : (test : ℕ → Bool) → anyOf test 0 ≡ false
+unfolding firstFrom
+any-none test = refl
+
+pub any-more : (test : ℕ → Bool) (n : ℕ) → anyOf test (n + 1) ≡ (anyOf test n || test n)
+any-more test n = go (anyOf test n) refl (test n) refl
+  where
+    found : (j : ℕ) → j < n + 1 → test j ≡ true → anyOf test (n + 1) ≡ true
+    found j l h = lt-ltb (firstOf test (n + 1)) (n + 1) (omega (arith, first-least test (n + 1) j h))
+
+    go : (a : Bool) → anyOf test n ≡ a → (t : Bool) → test n ≡ t → anyOf test (n + 1) ≡ (anyOf test n || test n)
+    go true e t q =
+        let l : firstOf test n < n = ltb-true (firstOf test n) n e in
+        rw e (found (firstOf test n) (omega arith) (first-holds test n l))
+    go false e true q = rw (e, q) (found n (omega arith) q)
+    go false e false q =
+        let none : firstOf test (n + 1) ≡ n + 1 = first-none test (n + 1) (λ j h. below j h) in
+        rw (e, q, none) (le-ltb (n + 1) (n + 1) (omega arith))
+      where
+        below : (j : ℕ) → j < n + 1 → test j ≡ false
+        below j h =
+            elim (decLt j n) as (λ _. test j ≡ false) [
+              | yes l ↦ first-before test n j (omega (arith, ltb-false (firstOf test n) n e))
+              | no l ↦ let z : j ≡ n = omega arith in ap test z ∙ q
+            ]
 
 -- two tests that agree below n have one first place
 pub first-same : (test other : ℕ → Bool) (n : ℕ) → ((j : ℕ) → j < n → test j ≡ other j) → firstOf test n ≡ firstOf other n

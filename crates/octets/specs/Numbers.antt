@@ -23,10 +23,6 @@ checksumWrong = 3
 abbrev pub bufferShort : ℕ
 bufferShort = 4
 
--- 5: store breaks its rules
-abbrev pub storeBroken : ℕ
-storeBroken = 5
-
 -- 6: answer not held
 abbrev pub notHeld : ℕ
 notHeld = 6
@@ -54,6 +50,27 @@ outOfTurn = 11
 -- 12: answer or request not in the table, or its day not allowed
 abbrev pub notInTable : ℕ
 notInTable = 12
+
+-- What is broken in a store (document 02, Req 06: "Split number 5"); 5 is no number of any call.
+-- 13: buffer shorter than the header says
+abbrev pub storeShort : ℕ
+storeShort = 13
+
+-- 14: too many answers or stream over its bound
+abbrev pub storeBounds : ℕ
+storeBounds = 14
+
+-- 15: an entry's offset or length
+abbrev pub storeEntry : ℕ
+storeEntry = 15
+
+-- 16: an answer's first two bytes or its day
+abbrev pub storeAnswer : ℕ
+storeAnswer = 16
+
+-- 17: the same TREP and day twice
+abbrev pub storeTwice : ℕ
+storeTwice = 17
 
 -- Results that carry a number. "Each returns its number with the state as handed in, and writes nothing": whatever a
 -- call gives or changes, it does so only where its number is 0.

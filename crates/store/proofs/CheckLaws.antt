@@ -1,26 +1,30 @@
--- The five checks, from the tests of the code.
-use Prim.Native.Nat.{ℕ, _+_, _-_, _<_, _≤_}
+-- The five checks and the fault, from the tests of the code.
+use Prim.Native.Nat.{ℕ, _+_, _*_, _-_, _<_, _≤_}
 use mathlib.Core.Bool.{Bool, true, false, not}
 use mathlib.Core.List.{List, [], _∷_}
 use mathlib.Core.Path.{_≡_, refl, sym, _∙_}
 use native.Mathlib.Omega.{arith}
+use native.Mathlib.Decide.{decLt}
 use native.Mathlib.Numerals.{add-one}
 use lib.Dec.{eqb, leb}
 use lib.ListN.{length, getD}
-use borrow.Author.Tests.{le-leb, lt-leb, eq-eqb, ne-eqb, leb-true}
+use borrow.Author.Tests.{lt-ltb, le-ltb, le-leb, lt-leb, eq-eqb, ne-eqb, not-true}
 use Rattle.fields.specs.BigEndian.{numberOf}
-use Rattle.octets.specs.Search.{firstFrom, firstOf, anyOf, noneOf}
-use Rattle.octets.proofs.Tests.{and-right}
-use Rattle.octets.proofs.OrderLaws.{unless-is}
-use Rattle.octets.proofs.SearchLaws.{none-hit, none-end}
+use Rattle.octets.specs.Order.{unless}
+use Rattle.octets.specs.Search.{firstFrom, firstOf}
+use Rattle.octets.proofs.SearchLaws.{search-hit, search-end, none-hit, none-end, none-built}
 use Rattle.fields.proofs.NumberLaws.{read-two, read-four}
 use Rattle.catalog.specs.Name.{sameAnswer, nameNumber}
 use Rattle.catalog.specs.declared.AnswerName.{AnswerName}
-use Rattle.catalog.proofs.NameLaws.{other-day}
-use Rattle.store.specs.Layout.{Form, headerSize, entrySize, entryStart, answers, streamLength, streamStart, storeLength, entryDay, entryOffset}
+use Rattle.catalog.proofs.NameLaws.{same-not, other-day}
+use Rattle.store.specs.declared.Fault.{Fault}
+use Rattle.store.specs.Layout.{Form, headerSize, entrySize, entryStart, answers, streamLength, streamStart, entryDay, entryOffset}
 use Rattle.store.specs.Layout.{entryLength, answerStart, nameAt}
-use Rattle.store.specs.Check.{headerFits, countsFit, filledTo, placeRight, placesRight, answerRight, answersRight, repeats, namesDiffer, storeNumber}
+use Rattle.store.specs.Check.{headerFits, countsFit, filledTo, placeRight, placesRight, answerRight, answersRight, repeats, namesDiffer}
+use Rattle.store.specs.Check.{faultAt, noFault, countRead, misplacedAt, wrongAt, repeatAt, storeFault, storeNumber}
 use Rattle.store.proofs.FormLaws.{entry-size, entry-below}
+use Rattle.store.proofs.FactLaws.{whole-is, placed-is}
+use Rattle.store.proofs.NumberLaws.{first-13, first-14, first-15, first-16, first-17, first-0, past-13}
 
 -- the fields of an entry that lies in the buffer, from its bytes; at is where it starts
 module _ (f : Form) (s : List ℕ) (i r at : ℕ) (h : entryStart f i + entrySize f ≤ length s) (e : at ≡ entryStart f i) where
@@ -39,15 +43,14 @@ module _ (f : Form) (s : List ℕ) (i r at : ℕ) (h : entryStart f i + entrySiz
 -- which entries lie in it
 module _ (f : Form) (s : List ℕ) where
   pub header-start : headerFits f s ≡ true → streamStart f s ≤ length s
-  unfolding headerFits
-  header-start h = let w : storeLength f s ≤ length s = leb-true _ _ (and-right (leb (headerSize f) (length s)) _ h) in omega arith
-
-  whole-header : storeNumber f s ≡ 0 → headerFits f s ≡ true
-  unfolding storeNumber
-  whole-header e = unless-is (headerFits f s) 5 _ 0 refl e .first
+  header-start h = omega (arith, whole-is f s h .store)
 
   pub checked-start : storeNumber f s ≡ 0 → streamStart f s ≤ length s
-  checked-start z = header-start (whole-header z)
+  checked-start z = header-start (past-13 f s 0 z refl .first)
+
+  -- all entries, by the count n that the code read
+  pub checked-all : (n : ℕ) → n ≡ answers f s → storeNumber f s ≡ 0 → entryStart f n ≤ length s
+  checked-all n p z = rw p (checked-start z)
 
   pub whole-start : (r : ℕ) → r ≡ storeNumber f s → r ≡ 0 → streamStart f s ≤ length s
   whole-start r e z = checked-start (sym e ∙ z)
@@ -96,6 +99,14 @@ module _ (f : Form) (s : List ℕ) where
   unfolding headerFits
   header-is h b t e l p q = rw (le-leb (headerSize f) (length s) (omega arith), p, q)
 
+  pub count-short : (h : ℕ) → h ≡ headerSize f → length s < h → 0 ≡ countRead f s
+  unfolding countRead
+  count-short h e l = rw (← e, lt-leb h (length s) l)
+
+  pub count-is : (h n : ℕ) → h ≡ headerSize f → h ≤ length s → n ≡ answers f s → n ≡ countRead f s
+  unfolding countRead
+  count-is h n e l q = rw (← e, le-leb h (length s) l) q
+
   pub counts-many : (n : ℕ) → n ≡ answers f s → f .answersMost < n → false ≡ countsFit f s
   unfolding countsFit
   counts-many n p h = rw (← p, lt-leb n (f .answersMost) h)
@@ -104,7 +115,7 @@ module _ (f : Form) (s : List ℕ) where
   unfolding countsFit
   counts-is n t p q h = rw (← p, ← q, le-leb n (f .answersMost) h)
 
--- Places: the entries passed fill the stream up to at
+-- Places: the entries before i end at `end`
 
 abbrev pub misplaced : Form → List ℕ → ℕ → Bool
 misplaced f s i = not (placeRight f i s)
@@ -114,41 +125,50 @@ module _ (f : Form) (s : List ℕ) where
   unfolding filledTo
   filled-none = refl
 
-  module _ (i at l : ℕ) (filled : at ≡ filledTo f i s) (len : l ≡ entryLength f i s) where
-    pub filled-next : at + l ≡ filledTo f (i + 1) s
+  module _ (i end l : ℕ) (filled : end ≡ filledTo f i s) (len : l ≡ entryLength f i s) where
+    pub filled-next : end + l ≡ filledTo f (i + 1) s
     unfolding filledTo
     filled-next = rw (filled, len, add-one i)
 
+    -- an entry in its place ends within the stream
+    pub next-within : placeRight f i s ≡ true → end + l ≤ streamLength f s
+    next-within h = omega (arith, placed-is f s i h .inside)
+
     module _ (o : ℕ) (off : o ≡ entryOffset f i s) where
-      pub place-gap : (o ≡ at → ⊥) → misplaced f s i ≡ true
+      pub place-gap : (o ≡ end → ⊥) → false ≡ placeRight f i s
       unfolding placeRight
-      place-gap h = rw (← off, ← filled, ne-eqb o at h)
+      place-gap h = rw (← off, ← filled, ne-eqb o end h)
 
-      module _ (here : o ≡ at) where
-        pub place-short : l < 2 → misplaced f s i ≡ true
+      module _ (here : o ≡ end) where
+        pub place-short : l < 2 → false ≡ placeRight f i s
         unfolding placeRight
-        place-short h = rw (← off, ← filled, ← len, eq-eqb o at here, lt-leb 2 l h)
+        place-short h = rw (← off, ← filled, ← len, eq-eqb o end here, lt-leb 2 l h)
 
-        module _ (t : ℕ) (stream : t ≡ streamLength f s) (long : 2 ≤ l) where
-          pub place-past : t < at + l → misplaced f s i ≡ true
-          unfolding placeRight
-          place-past h = rw (← off, ← filled, ← len, ← stream, eq-eqb o at here, le-leb 2 l long, lt-leb (at + l) t h)
-
-          pub place-here : at + l ≤ t → misplaced f s i ≡ false
-          unfolding placeRight
-          place-here h = rw (← off, ← filled, ← len, ← stream, eq-eqb o at here, le-leb 2 l long, le-leb (at + l) t h)
+        pub place-is : (t : ℕ) → t ≡ streamLength f s → 2 ≤ l → leb (end + l) t ≡ placeRight f i s
+        unfolding placeRight
+        place-is t stream long = rw (← off, ← filled, ← len, ← stream, eq-eqb o end here, le-leb 2 l long)
 
   -- an entry that is misplaced, or none and the stream filled or not
-  pub places-wrong : (n : ℕ) → n ≡ answers f s → false ≡ noneOf (misplaced f s) n → false ≡ placesRight f s
-  unfolding placesRight
-  places-wrong n p h = rw (← p, ← h)
+  module _ (n : ℕ) (p : n ≡ answers f s) where
+    pub entry-wrong : (i : ℕ) → firstOf (misplaced f s) n ≡ firstFrom (misplaced f s) (n - i) i → i < n → misplaced f s i ≡ true
+        → _≡_ {A = Fault} (record { number = 15; position = i }) (unless (placesRight f s) (faultAt 15 (misplacedAt f s)) noFault)
+    unfolding placesRight
+    entry-wrong i whole more h = rw (← p, ← none-hit (misplaced f s) n i whole more h, search-hit (misplaced f s) n i whole more h)
 
-  pub places-end : (n i at t : ℕ) → n ≡ answers f s → t ≡ streamLength f s → i ≤ n → n ≤ i → at ≡ filledTo f i s → true ≡ noneOf (misplaced f s) n
-      → eqb at t ≡ placesRight f s
-  unfolding placesRight
-  places-end n i at t p q a b e h =
-      let z : i ≡ n = omega arith in
-      rw (← p, ← h, ← q, ← z, ← e)
+    module _ (i end t : ℕ) (q : t ≡ streamLength f s) (l : i ≤ n) (h : n ≤ i) (filled : end ≡ filledTo f i s)
+        (whole : firstOf (misplaced f s) n ≡ firstFrom (misplaced f s) (n - i) i) where
+      all : i ≡ n
+      all = omega arith
+
+      pub entries-end-short : (end ≡ t → ⊥)
+          → _≡_ {A = Fault} (record { number = 15; position = n }) (unless (placesRight f s) (faultAt 15 (misplacedAt f s)) noFault)
+      unfolding placesRight
+      entries-end-short d =
+          rw (← p, ← none-end (misplaced f s) n i whole h, ← q, ← all, ← filled, ne-eqb end t d, all, search-end (misplaced f s) n i whole h, all)
+
+      pub entries-fill : end ≡ t → noFault ≡ unless (placesRight f s) (faultAt 15 (misplacedAt f s)) noFault
+      unfolding placesRight
+      entries-fill d = rw (← p, ← none-end (misplaced f s) n i whole h, ← q, ← all, ← filled, eq-eqb end t d)
 
 -- One answer; b is its first byte, r the number of its name
 
@@ -161,41 +181,97 @@ module _ (f : Form) (s : List ℕ) (i start b : ℕ) (is-start : start ≡ answe
   unfolding answerRight
   answer-is name r h e q = rw (← is-start, ← first, eq-eqb b 0x76 h, ← e, q)
 
--- Whether one of them fails, by the count n that the code read
-
-module _ (f : Form) (s : List ℕ) (n : ℕ) (p : n ≡ answers f s) (r : Bool) where
-  pub names-by : r ≡ noneOf (λ i. repeats f i s) n → r ≡ namesDiffer f s
-  unfolding namesDiffer
-  names-by h = rw (← p) h
-
--- a name among the earlier ones; r is what the search of them gave
-module _ (f : Form) (s : List ℕ) (i : ℕ) (name : AnswerName) (is : name ≡ nameAt f i s) (r : Bool)
-    (found : r ≡ anyOf (λ j. sameAnswer (nameAt f j s) name) i) where
-  repeats-by : r ≡ repeats f i s
-  unfolding repeats
-  repeats-by = rw (← is) found
-
-  pub repeats-is : r ≡ true → repeats f i s ≡ true
-  repeats-is h = sym repeats-by ∙ h
-
-  pub repeats-not : r ≡ false → repeats f i s ≡ false
-  repeats-not h = sym repeats-by ∙ h
-
--- the answers in front that are right, up to i: r is what the test of the i-th gave
+-- a test of the answer, as the loop makes it
 pub right-by : (r : Bool) (t : Bool) → r ≡ t → r ≡ true → not t ≡ false
 right-by r t e h = rw (← e, h)
 
-module _ (f : Form) (s : List ℕ) (n i : ℕ) (p : n ≡ answers f s)
-    (whole : firstOf (λ j. not (answerRight f j s)) n ≡ firstFrom (λ j. not (answerRight f j s)) (n - i) i) where
-  module _ (more : i < n) (r : Bool) (asked : r ≡ answerRight f i s) where
-    pub answers-stopped : r ≡ false → eqb i n ≡ answersRight f s
-    unfolding answersRight
-    answers-stopped h =
-        let e : eqb i n ≡ false = ne-eqb i n (λ q. omega arith) in
-        rw (← p) (e ∙ none-hit (λ j. not (answerRight f j s)) n i whole more (rw (← asked, h)))
+pub wrong-by : (r : Bool) (t : Bool) → r ≡ t → r ≡ false → not t ≡ true
+wrong-by r t e h = rw (← e, h)
 
-  pub answers-through : i ≤ n → n ≤ i → eqb i n ≡ answersRight f s
-  unfolding answersRight
-  answers-through l h =
-      let e : eqb i n ≡ true = eq-eqb i n (omega arith) in
-      rw (← p) (e ∙ none-end (λ j. not (answerRight f j s)) n i whole h)
+-- Names: those before i rank below `above`, so that a name from there on is none of them
+
+abbrev rankOf : AnswerName → ℕ
+rankOf name = name .trep * 4294967296 + name .day
+
+pub RankedBelow : Form → ℕ → ℕ → List ℕ → Type 0
+RankedBelow f above i s = (j : ℕ) → j < i → rankOf (nameAt f j s) < above
+
+module _ (f : Form) (s : List ℕ) where
+  pub ranked-none : (above : ℕ) → RankedBelow f above 0 s
+  unfolding RankedBelow
+  ranked-none above j h = absurd (omega arith)
+
+  module _ (i above : ℕ) (name : AnswerName) (is : name ≡ nameAt f i s) (ranked : RankedBelow f above i s) where
+    -- the bound may grow with the name passed
+    pub ranked-more : (next : ℕ) → above ≤ next → rankOf name < next → RankedBelow f next (i + 1) s
+    unfolding RankedBelow
+    ranked-more next l h j b =
+        elim (decLt j i) as (λ _. rankOf (nameAt f j s) < next) [
+          | yes q ↦ omega (arith, ranked j q)
+          | no q ↦ let e : j ≡ i = omega arith in rw (e, ← is) h
+        ]
+
+    pub new-above : (here : ℕ) → here ≡ rankOf name → above ≤ here → repeats f i s ≡ false
+    unfolding repeats RankedBelow
+    new-above here e l =
+        not-true _ (none-built (λ j. sameAnswer (nameAt f j s) (nameAt f i s)) i
+        (λ j h. same-not _ _ (λ q. let z : rankOf (nameAt f j s) ≡ rankOf name = rw (is, q) in omega (arith, ranked j h))))
+
+    -- a name that was looked for among them; p is where it was found first, i where nowhere
+    module _ (p : ℕ) (found : p ≡ firstOf (λ j. sameAnswer (nameAt f j s) name) i) where
+      pub repeats-earlier : p < i → repeats f i s ≡ true
+      unfolding repeats
+      repeats-earlier h = rw (← is, ← found) (lt-ltb p i h)
+
+      pub new-here : i ≤ p → repeats f i s ≡ false
+      unfolding repeats
+      new-here h = rw (← is, ← found) (le-ltb p i h)
+
+-- The fault: what each check gave, in order
+
+module _ (f : Form) (s : List ℕ) where
+  pub fault-short : (k : ℕ) → headerFits f s ≡ false → k ≡ countRead f s → _≡_ {A = Fault} (record { number = 13; position = k }) (storeFault f s)
+  fault-short k h e = rw e (sym (first-13 f s h))
+
+  module _ (header : headerFits f s ≡ true) (n : ℕ) (p : n ≡ answers f s) where
+    pub fault-bounds : countsFit f s ≡ false → _≡_ {A = Fault} (record { number = 14; position = n }) (storeFault f s)
+    fault-bounds c = rw p (sym (first-14 f s header c))
+
+    module _ (counts : countsFit f s ≡ true) (r : Fault) (e : r ≡ unless (placesRight f s) (faultAt 15 (misplacedAt f s)) noFault) where
+      pub fault-entry : (r .number ≡ 0 → ⊥) → r ≡ storeFault f s
+      fault-entry h = go (placesRight f s) refl
+        where
+          go : (b : Bool) → placesRight f s ≡ b → r ≡ storeFault f s
+          go true q = let w : r .number ≡ 0 = rw (e, q) in absurd (h w)
+          go false q = let w : r ≡ faultAt 15 (misplacedAt f s) = rw (e, q) in w ∙ sym (first-15 f s header counts q)
+
+      module _ (z : r .number ≡ 0) where
+        placed : placesRight f s ≡ true
+        placed = go (placesRight f s) refl
+          where
+            go : (b : Bool) → placesRight f s ≡ b → placesRight f s ≡ true
+            go true q = q
+            go false q = let w : r .number ≡ 15 = rw (e, q) in absurd (omega arith)
+
+        module _ (wrong : ℕ) (w : wrong ≡ wrongAt f s) where
+          pub fault-answer : wrong < n → _≡_ {A = Fault} (record { number = 16; position = wrong }) (storeFault f s)
+          unfolding answersRight
+          fault-answer h = rw w (sym (first-16 f s header counts placed (rw (← w, ← p, lt-ltb wrong n h))))
+
+          module _ (right : n ≤ wrong) where
+            begun : answersRight f s ≡ true
+            unfolding answersRight
+            begun = rw (← w, ← p, le-ltb wrong n right)
+
+            module _ (repeat : ℕ) (d : repeat ≡ repeatAt f s) where
+              pub fault-twice : repeat < n → _≡_ {A = Fault} (record { number = 17; position = repeat }) (storeFault f s)
+              unfolding namesDiffer
+              fault-twice h = rw d (sym (first-17 f s header counts placed begun (rw (← d, ← p, lt-ltb repeat n h))))
+
+              pub fault-none : n ≤ repeat → noFault ≡ storeFault f s
+              unfolding namesDiffer
+              fault-none h = sym (first-0 f s header counts placed begun (rw (← d, ← p, le-ltb repeat n h)))
+
+pub number-of-fault : (f : Form) (s : List ℕ) (r : Fault) → r ≡ storeFault f s → r .number ≡ storeNumber f s
+unfolding storeNumber
+number-of-fault f s r e = rw e

@@ -1,22 +1,25 @@
 -- The claims of specs/Claims.antt, each from its theorem.
 use Rattle.store.specs.Layout.{Form, Sized}
 use Rattle.store.specs.Claims.{NumberClaims, ListClaims, NarrowClaims, StoreClaims}
-use Rattle.store.proofs.StoreLaws.{store-either}
 use Rattle.store.proofs.ContentsLaws.{contents-holdable}
 use Rattle.store.proofs.ListLaws.{is-among, answer-of}
 use Rattle.store.proofs.OwnBytes.{own-bytes}
 use Rattle.store.proofs.Theorems.{written-unbroken, written-contents, lookup-is, lookup-bytes, stream-is, kth-is, kth-bytes, none-left}
-use Rattle.store.proofs.Refusals.{store-five, lookup-five, stream-five, held-five, lookup-six, answer-either, unlisted-number, number-unlisted}
-use Rattle.store.proofs.NarrowLaws.{empty-is, empty-unbroken, empty-contents, w12-is}
+use Rattle.store.proofs.Refusals.{broken-number, number-broken, lookup-fault, held-fault, stream-number, count-number, lookup-not-five}
+use Rattle.store.proofs.Refusals.{held-not-five, lookup-six, answer-either, unlisted-number, number-unlisted}
+use Rattle.store.proofs.Faults.{fault-claims}
+use Rattle.store.proofs.NarrowLaws.{empty-is, empty-unbroken, empty-contents, w12-is, fault-examples}
 
 numbers : (f : Form) → NumberClaims f
 numbers f =
     record {
-      five = store-five f;
-      fiveOnly = store-either f;
-      lookupFive = λ name s. lookup-five f s name;
-      streamFive = stream-five f;
-      heldFive = λ i s. held-five f s i;
+      broken = λ s. (number-broken f s, broken-number f s);
+      lookupFault = λ name s. lookup-fault f s name;
+      streamFault = stream-number f;
+      countFault = count-number f;
+      heldFault = λ i s. held-fault f s i;
+      lookupNotFive = λ name s. lookup-not-five f s name;
+      heldNotFive = λ i s. held-not-five f s i;
       six = λ name s. lookup-six f s name;
     }
 
@@ -44,6 +47,8 @@ pub claims : StoreClaims
 claims =
     record {
       numbers = numbers;
+      faults = fault-claims;
+      faultExamples = fault-examples;
       twelve = λ a day. (number-unlisted a day, unlisted-number a day);
       twelveOnly = answer-either;
       list = list;

@@ -7,7 +7,7 @@ use native.Mathlib.Omega.{arith}
 use native.Mathlib.Nat.{add-zero}
 use lib.ListN.{length, getD, take, length-append}
 use lib.Seq.{take-suc, take-all, take-add}
-use borrow.Author.Tests.{eq-eqb, not-true}
+use borrow.Author.Tests.{eq-eqb}
 use Rattle.octets.specs.Buffer.{Bytes, partAt}
 use Rattle.octets.specs.Search.{noneOf}
 use Rattle.octets.proofs.Tests.{and-both}
@@ -16,15 +16,14 @@ use Rattle.fields.proofs.NumberLaws.{number-fits}
 use Rattle.octets.proofs.PartLaws.{part-in, byte-in, bytes-part}
 use Rattle.octets.proofs.SearchLaws.{none-built}
 use Rattle.octets.proofs.ValueLaws.{same-values, length-values, value-at, values-of}
-use Rattle.catalog.specs.Name.{sameAnswer}
-use Rattle.catalog.proofs.NameLaws.{same-not}
 use Rattle.catalog.specs.declared.AnswerName.{AnswerName}
 use Rattle.store.specs.Layout.{Form, answers, streamLength, streamStart, streamOf, entryStart, entryOffset, entryLength, answerStart, answerAt, nameAt}
 use Rattle.store.specs.Check.{filledTo, placeRight, placesRight, answerRight, answersRight, repeats, namesDiffer, storeNumber}
 use Rattle.store.specs.Read.{position}
 use Rattle.store.specs.Contents.{Stored, nameFor, nothing, backToBack, offsetOf, storedAt, contents, Listed, Holdable}
 use Rattle.store.proofs.AnswerLaws.{answer-long, answer-begun, answer-allowed, answer-named}
-use Rattle.store.proofs.StoreLaws.{unbroken, unbroken-zero, held, place-built, places-fill, answer-length, position-of}
+use Rattle.store.proofs.FactLaws.{placed-passes, new-passes}
+use Rattle.store.proofs.StoreLaws.{unbroken, unbroken-zero, held, places-fill, answer-length, position-of}
 use Rattle.store.proofs.WrittenLaws.{Reads, back-append, answer-inside, answer-part}
 
 -- one answer further in a list
@@ -99,13 +98,15 @@ module _ (f : Form) (gs : List Stored) (s : List ℕ) (fit : Holdable f gs) (rea
   placed i h =
       let e = filled i (omega arith) in
       let l = reads .lengths i h in
-      place-built f i s (reads .offsets i h ∙ sym e) (omega (arith, long i h)) (omega (arith, answer-inside gs i h, reads .total))
+      placed-passes f s i
+      (record {
+        offset = reads .offsets i h ∙ sym e;
+        long = omega (arith, long i h);
+        inside = omega (arith, answer-inside gs i h, reads .total);
+      })
 
   differs : (i : ℕ) → i < length gs → repeats f i s ≡ false
-  unfolding repeats
-  differs i h =
-      not-true _ (none-built (λ j. sameAnswer (nameAt f j s) (nameAt f i s)) i
-      (λ j l. rw (name-read j (omega arith), name-read i h) (same-not (nameFor (getD gs j nothing)) (nameFor (getD gs i nothing)) (fit .different j i l h))))
+  differs i h = new-passes f s i (λ j l e. fit .different j i l h (rw (name-read j (omega arith), name-read i h) at e))
 
   -- it is unbroken
   pub reads-unbroken : storeNumber f s ≡ 0

@@ -1,5 +1,5 @@
 -- Lookup, stream and answers, from the tests of the code.
-use Prim.Native.Nat.{ℕ, _-_, _<_, _≤_}
+use Prim.Native.Nat.{ℕ, _<_, _≤_}
 use mathlib.Core.Bool.{true}
 use mathlib.Core.List.{List}
 use mathlib.Core.Path.{_≡_, sym, ap}
@@ -10,7 +10,7 @@ use Rattle.octets.specs.declared.Place.{Place}
 use Rattle.octets.specs.Numbers.{refusedPlace}
 use Rattle.catalog.specs.Name.{sameAnswer}
 use Rattle.catalog.specs.declared.AnswerName.{AnswerName}
-use Rattle.catalog.proofs.NameLaws.{absent-unlisted}
+use Rattle.catalog.proofs.TableLaws.{absent-unlisted}
 use Rattle.store.specs.declared.HeldAnswer.{HeldAnswer}
 use Rattle.store.specs.declared.TwoPlaces.{TwoPlaces}
 use Rattle.store.specs.Layout.{Form, answers, streamLength, streamStart, entryLength, answerStart, nameAt}
@@ -19,20 +19,18 @@ use Rattle.store.specs.Read.{position, lookupNumber, lookupPlace, lookup
 use Rattle.store.proofs.PositionLaws.{missing-not}
 use Rattle.store.proofs.StoreLaws.{unlisted-missing}
 
--- The search, by the count n that the code read
-pub position-by : (f : Form) (s : List ℕ) (name : AnswerName) (n i : ℕ) → n ≡ answers f s → firstOf (λ j. sameAnswer (nameAt f j s) name) n ≡ i
-    → i ≡ position f name s
-position-by f s name n i p e = rw (← p) (sym e)
-
 -- A search in a checked store; i is the position, n the count
 
 module _ (f : Form) (s : List ℕ) (name : AnswerName) (z : storeNumber f s ≡ 0) where
   -- a held answer has a listed TREP, and FF is none
   pub find-none : (place : Place) → name .trep ≡ 0xFF → place ≡ refusedPlace 6 → place ≡ lookupPlace f name s
   unfolding lookupPlace lookupNumber
-  find-none place e q = rw q (rw (z, missing-not f name s (unlisted-missing f name s z (rw e absent-unlisted))))
+  find-none place e q = rw q (rw (z, missing-not f name s (unlisted-missing f name s z (sym (absent-unlisted (name .trep) e)))))
 
-  module _ (i n : ℕ) (p : i ≡ position f name s) (q : n ≡ answers f s) where
+  module _ (i n : ℕ) (q : n ≡ answers f s) (found : i ≡ firstOf (λ j. sameAnswer (nameAt f j s) name) n) where
+    p : i ≡ position f name s
+    p = rw (← q) found
+
     pub find-missing : (place : Place) → n ≤ i → place ≡ refusedPlace 6 → place ≡ lookupPlace f name s
     unfolding lookupPlace lookupNumber
     find-missing place h e = rw e (rw (z, ← p, ← q, le-ltb i n h))

@@ -1,9 +1,9 @@
 -- What the numbers say of the store and of an answer, each way.
-use Prim.Native.Nat.{ℕ}
+use Prim.Native.Nat.{ℕ, _<_}
 use mathlib.Core.Bool.{Bool, true, false}
 use mathlib.Core.List.{List}
-use mathlib.Core.Logic.{_↔_, _⊎_, inl, inr}
-use mathlib.Core.Path.{_≡_, refl}
+use mathlib.Core.Logic.{_↔_, _⊎_, inl, ⊎-elim}
+use mathlib.Core.Path.{_≡_, refl, sym}
 use native.Mathlib.Omega.{arith}
 use lib.Dec.{eqb, ltb, leb}
 use lib.ListN.{length, getD}
@@ -14,85 +14,91 @@ use Rattle.catalog.specs.Name.{dayNamed, nameNumber}
 use Rattle.catalog.specs.declared.AnswerName.{AnswerName}
 use Rattle.store.specs.Layout.{Form, answers}
 use Rattle.store.specs.Check.{headerFits, countsFit, placesRight, answersRight, namesDiffer, storeNumber}
-use Rattle.store.specs.Read.{isHeld, lookupNumber, streamPlace, heldNumber, heldAnswer}
+use Rattle.store.specs.Read.{isHeld, lookupNumber, streamPlace, countHeld, heldNumber, heldAnswer}
 use Rattle.store.specs.Answer.{nameOf, answerNumber}
+use Rattle.store.specs.Faults.{IsFault}
 use Rattle.store.specs.Claims.{Missing}
 use Rattle.store.specs.Claims.{Broken, header, counts, places, begins, names, Unlisted, short, first, trep, named}
-use Rattle.octets.proofs.OrderLaws.{unless-is, unless-either}
+use Rattle.octets.proofs.Tests.{never}
+use Rattle.octets.proofs.OrderLaws.{unless-either, or-is, or-first}
+use Rattle.store.proofs.NumberLaws.{numberBy, number-in-order, past-13, past-14, past-15, past-16, past-17}
 use Rattle.store.proofs.PositionLaws.{missing-position}
-use Rattle.store.proofs.StoreLaws.{store-either, lookup-missing, lookup-missing-only}
+use Rattle.store.proofs.StoreLaws.{store-either, store-not, lookup-missing, lookup-missing-only}
 
 -- a check before what gives its own refusal
 pub unless-before : (holds : Bool) (k rest : ℕ) → rest ≡ k → unless holds k rest ≡ k
 unless-before true k rest e = e
 unless-before false k rest e = refl
 
--- numbers before, 0 or j, give j exactly where the whole does, if the rest does not
-pub or-first : (n j rest : ℕ) → (n ≡ 0) ⊎ (n ≡ j) → eqb j 0 ≡ false → (rest ≡ j → ⊥) → (orElse n rest ≡ j) ↔ (n ≡ j)
-or-first n j rest (inl z) known other = ((λ e. absurd (other (rw z at e))), (λ e. rw (e, known)))
-or-first n j rest (inr q) known other = ((λ e. q), (λ e. rw (e, known)))
+-- a number of 13 to 17 is not 0, nor one that a check behind the store's gives
+pub fault-not : (k j : ℕ) → IsFault k → j < 13 → j ≡ k → ⊥
+fault-not k j q h e = omega (arith, q .0)
 
--- a check that refuses by 6 alone does not refuse by 5
-not-five : (holds : Bool) → _≡_ {A = ℕ} (unless holds 6 0) 5 → ⊥
-not-five holds e = let z : _≡_ {A = ℕ} 0 5 = unless-is holds 6 0 5 refl e .rest in omega arith
+-- a check that refuses by 6 alone refuses by no other number
+not-six : (holds : Bool) (k : ℕ) → (6 ≡ k → ⊥) → (0 ≡ k → ⊥) → unless holds 6 0 ≡ k → ⊥
+not-six true k six zero e = zero e
+not-six false k six zero e = six e
 
--- 5 exactly where one of the five checks fails
 module _ (f : Form) (s : List ℕ) where
-  abbrev n : ℕ
-  n = answers f s
+  -- a store is broken exactly where its number is that of a fault
+  pub broken-number : Broken f s → IsFault (storeNumber f s)
+  broken-number b = ⊎-elim (λ z. absurd (go b z)) (λ q. q) (store-either f s)
+    where
+      other : (t : Bool) → t ≡ true → t ≡ false → ⊥
+      other t p e = never (cc)
 
-  broken-number : Broken f s → storeNumber f s ≡ 5
-  unfolding storeNumber
-  broken-number (header e) = rw e
-  broken-number (counts e) = unless-before (headerFits f s) 5 _ (rw e)
-  broken-number (places e) = unless-before (headerFits f s) 5 _ (unless-before (countsFit f s) 5 _ (rw e))
-  broken-number (begins e) =
-      unless-before (headerFits f s) 5 _
-      (unless-before (countsFit f s) 5 _
-      (unless-before (placesRight f s) 5 _
-      (rw e)))
-  broken-number (names e) =
-      unless-before (headerFits f s) 5 _
-      (unless-before (countsFit f s) 5 _
-      (unless-before (placesRight f s) 5 _
-      (unless-before (answersRight f s) 5 _
-      (rw e))))
+      go : Broken f s → storeNumber f s ≡ 0 → ⊥
+      go (header e) z = other _ (past-13 f s 0 z refl .first) e
+      go (counts e) z = other _ (past-14 f s 0 z refl refl .first) e
+      go (places e) z = other _ (past-15 f s 0 z refl refl refl .first) e
+      go (begins e) z = other _ (past-16 f s 0 z refl refl refl refl .first) e
+      go (names e) z = other _ (past-17 f s 0 z refl refl refl refl refl .first) e
 
-  number-broken : storeNumber f s ≡ 5 → Broken f s
-  unfolding storeNumber
-  number-broken =
+  pub number-broken : IsFault (storeNumber f s) → Broken f s
+  number-broken q =
       go (headerFits f s) (countsFit f s) (placesRight f s) (answersRight f s) (namesDiffer f s)
-      refl refl refl refl refl
+      refl refl refl refl refl (rw (number-in-order f s) at q)
     where
       go : (h c p r d : Bool) → headerFits f s ≡ h → countsFit f s ≡ c → placesRight f s ≡ p → answersRight f s ≡ r
-          → namesDiffer f s ≡ d → _≡_ {A = ℕ} (unless h 5 (unless c 5 (unless p 5 (unless r 5 (unless d 5 0))))) 5 → Broken f s
-      go false c p r d eh ec ep er ed e = header eh
-      go true false p r d eh ec ep er ed e = counts ec
-      go true true false r d eh ec ep er ed e = places ep
-      go true true true false d eh ec ep er ed e = begins er
-      go true true true true false eh ec ep er ed e = names ed
-      go true true true true true eh ec ep er ed e = absurd (omega arith)
-
-  pub store-five : (storeNumber f s ≡ 5) ↔ Broken f s
-  store-five = (number-broken, broken-number)
+          → namesDiffer f s ≡ d → IsFault (numberBy h c p r d) → Broken f s
+      go false c p r d eh ec ep er ed w = header eh
+      go true false p r d eh ec ep er ed w = counts ec
+      go true true false r d eh ec ep er ed w = places ep
+      go true true true false d eh ec ep er ed w = begins er
+      go true true true true false eh ec ep er ed w = names ed
+      go true true true true true eh ec ep er ed w = absurd (omega (arith, w .0))
 
   -- a call that gives the store's number first
-  pub five-first : (rest : ℕ) → (rest ≡ 5 → ⊥) → (orElse (storeNumber f s) rest ≡ 5) ↔ Broken f s
-  five-first rest other =
-      let known = or-first (storeNumber f s) 5 rest (store-either f s) refl other in
-      ((λ e. number-broken (known .0 e)), (λ b. known .1 (broken-number b)))
+  pub fault-first : (rest k : ℕ) → IsFault k → (rest ≡ k → ⊥) → (orElse (storeNumber f s) rest ≡ k) ↔ (storeNumber f s ≡ k)
+  fault-first rest k q other = or-first (storeNumber f s) rest k (ne-eqb k 0 (λ e. fault-not k 0 q (omega arith) (sym e))) other
 
-  pub lookup-five : (name : AnswerName) → (lookupNumber f name s ≡ 5) ↔ Broken f s
+  pub lookup-fault : (name : AnswerName) (k : ℕ) → IsFault k → (lookupNumber f name s ≡ k) ↔ (storeNumber f s ≡ k)
   unfolding lookupNumber
-  lookup-five name = five-first _ (not-five (isHeld f name s))
+  lookup-fault name k q = fault-first _ k q (not-six (isHeld f name s) k (fault-not k 6 q (omega arith)) (fault-not k 0 q (omega arith)))
 
-  pub held-five : (i : ℕ) → (heldAnswer f i s .number ≡ 5) ↔ Broken f s
+  pub held-fault : (i k : ℕ) → IsFault k → (heldAnswer f i s .number ≡ k) ↔ (storeNumber f s ≡ k)
   unfolding heldAnswer heldNumber
-  held-five i = five-first _ (not-five (ltb i (answers f s)))
+  held-fault i k q = fault-first _ k q (not-six (ltb i (answers f s)) k (fault-not k 6 q (omega arith)) (fault-not k 0 q (omega arith)))
 
-  pub stream-five : (streamPlace f s .number ≡ 5) ↔ Broken f s
+  pub stream-number : streamPlace f s .number ≡ storeNumber f s
   unfolding streamPlace
-  stream-five = store-five
+  stream-number = refl
+
+  pub count-number : countHeld f s .number ≡ storeNumber f s
+  unfolding countHeld
+  count-number = refl
+
+  -- none of them gives 5
+  pub store-not-five : storeNumber f s ≡ 5 → ⊥
+  store-not-five = store-not f s 5 (λ z. omega arith) (λ q. omega (arith, q .0))
+
+  pub lookup-not-five : (name : AnswerName) → lookupNumber f name s ≡ 5 → ⊥
+  unfolding lookupNumber
+  lookup-not-five name e = not-six (isHeld f name s) 5 (λ z. omega arith) (λ z. omega arith) (or-is (storeNumber f s) _ 5 store-not-five e .rest)
+
+  pub held-not-five : (i : ℕ) → heldAnswer f i s .number ≡ 5 → ⊥
+  unfolding heldAnswer heldNumber
+  held-not-five i e = not-six (ltb i (answers f s)) 5 (λ z. omega arith) (λ z. omega arith) (or-is (storeNumber f s) _ 5 store-not-five e .rest)
 
   -- 6 exactly where an unbroken store holds no answer of that name
   pub lookup-six : (name : AnswerName) → (lookupNumber f name s ≡ 6) ↔ ((storeNumber f s ≡ 0) × Missing f name s)

@@ -1,19 +1,20 @@
 -- What a caller learns from an unbroken store and from a lookup.
 use Prim.Native.Nat.{ℕ, zero, _+_, _<_, _≤_}
-use mathlib.Core.Bool.{true, false, not}
+use mathlib.Core.Bool.{Bool, true, false, not}
 use mathlib.Core.List.{List, [], _∷_}
-use mathlib.Core.Logic.{_⊎_, inl}
+use mathlib.Core.Logic.{_⊎_, inl, inr, ⊎-elim}
 use mathlib.Core.Path.{_≡_, refl, sym, ap, _∙_}
 use native.Mathlib.Omega.{arith}
 use native.Mathlib.Nat.{add-zero}
-use lib.Dec.{eqb, leb}
+use lib.Dec.{eqb}
 use lib.ListN.{length, getD, drop}
 use lib.Seq.{drop-cons}
-use borrow.Author.Tests.{lt-ltb, le-ltb, le-leb, eq-eqb, ne-eqb, ltb-true, ltb-false, leb-true, eqb-true, not-false}
+use borrow.Author.Tests.{lt-ltb, le-ltb, ne-eqb, ltb-true, ltb-false, eqb-true, not-false}
+use Rattle.octets.specs.Order.{unless}
 use Rattle.octets.specs.Search.{firstOf, noneOf}
 use Rattle.octets.proofs.Tests.{and-left, and-right, never}
 use Rattle.octets.proofs.BufferLaws.{length-part}
-use Rattle.octets.proofs.OrderLaws.{Both, unless-is, unless-fails, unless-either, or-zero, or-is}
+use Rattle.octets.proofs.OrderLaws.{Both, unless-is, unless-fails, or-zero, or-is}
 use Rattle.octets.proofs.PartLaws.{byte-in}
 use Rattle.octets.proofs.SearchLaws.{none-at, first-before, first-found}
 use Rattle.catalog.specs.Table.{listed}
@@ -22,8 +23,11 @@ use Rattle.catalog.proofs.NameLaws.{allowed, same-self}
 use Rattle.catalog.specs.declared.AnswerName.{AnswerName}
 use Rattle.store.specs.Layout.{Form, headerSize, answers, streamLength, storeLength, entryOffset, entryLength, answerStart, streamOf, answerAt, nameAt}
 use Rattle.store.specs.Check.{headerFits, countsFit, filledTo, placeRight, placesRight, answerRight, answersRight, repeats, namesDiffer, storeNumber}
+use Rattle.store.specs.Faults.{IsFault, WithinBounds}
 use Rattle.store.specs.Claims.{Missing}
 use Rattle.store.specs.Read.{position, isHeld, lookupNumber, lookupPlace, lookupPart, streamPlace, streamPart}
+use Rattle.store.proofs.NumberLaws.{numberBy, number-in-order, past-13, past-14, past-15, past-16, past-17}
+use Rattle.store.proofs.FactLaws.{whole-passes, bounded-is, bounded-passes, placed-is}
 use Rattle.store.proofs.PositionLaws.{hasName, position-named, not-held}
 
 module _ (f : Form) where
@@ -39,47 +43,40 @@ module _ (f : Form) where
 
   -- a store with number 0 passes them
   pub unbroken : (s : List ℕ) → storeNumber f s ≡ 0 → Unbroken s
-  unfolding storeNumber headerFits countsFit
   unbroken s e =
-      let h = unless-is _ 5 _ 0 refl e in
-      let c = unless-is _ 5 _ 0 refl (h .rest) in
-      let p = unless-is _ 5 _ 0 refl (c .rest) in
-      let r = unless-is _ 5 _ 0 refl (p .rest) in
-      let d = unless-is _ 5 _ 0 refl (r .rest) in
+      let b = bounded-is f s (past-13 f s 0 e refl .first) (past-14 f s 0 e refl refl .first) in
       record {
-        header = leb-true _ _ (and-left (leb (headerSize f) (length s)) _ (h .first));
-        within = leb-true _ _ (and-right (leb (headerSize f) (length s)) _ (h .first));
-        count = leb-true _ _ (and-left (leb (answers f s) (f .answersMost)) _ (c .first));
-        stream = leb-true _ _ (and-right (leb (answers f s) (f .answersMost)) _ (c .first));
-        places = p .first;
-        right = r .first;
-        differ = d .first;
+        header = b .whole .header;
+        within = b .whole .store;
+        count = b .count;
+        stream = b .stream;
+        places = past-15 f s 0 e refl refl refl .first;
+        right = past-16 f s 0 e refl refl refl refl .first;
+        differ = past-17 f s 0 e refl refl refl refl refl .first;
       }
 
   -- and one that passes them has number 0
   pub unbroken-zero : (s : List ℕ) → Unbroken s → storeNumber f s ≡ 0
-  unfolding storeNumber headerFits countsFit
   unbroken-zero s u =
-      rw (
-        le-leb (headerSize f) (length s) (u .header),
-        le-leb (storeLength f s) (length s) (u .within),
-        le-leb (answers f s) (f .answersMost) (u .count),
-        le-leb (streamLength f s) (f .streamMost) (u .stream),
-        u .places,
-        u .right,
-        u .differ,
-      )
+      let b : WithinBounds f s =
+      record { whole = record { header = u .header; store = u .within }; count = u .count; stream = u .stream } in
+      number-in-order f s ∙ rw (whole-passes f s (b .whole), bounded-passes f s b, u .places, u .right, u .differ)
 
-  -- the number is 0 or 5
-  pub store-either : (s : List ℕ) → (storeNumber f s ≡ 0) ⊎ (storeNumber f s ≡ 5)
-  unfolding storeNumber
-  store-either s =
-      unless-either (headerFits f s) 5 _
-      (unless-either (countsFit f s) 5 _
-      (unless-either (placesRight f s) 5 _
-      (unless-either (answersRight f s) 5 _
-      (unless-either (namesDiffer f s) 5 0
-      (inl refl)))))
+  -- the number is 0 or that of a fault
+  pub store-either : (s : List ℕ) → (storeNumber f s ≡ 0) ⊎ IsFault (storeNumber f s)
+  store-either s = rw (number-in-order f s) (go (headerFits f s) (countsFit f s) (placesRight f s) (answersRight f s) (namesDiffer f s))
+    where
+      go : (h c p r d : Bool) → (numberBy h c p r d ≡ 0) ⊎ IsFault (numberBy h c p r d)
+      go false c p r d = inr (omega arith, omega arith)
+      go true false p r d = inr (omega arith, omega arith)
+      go true true false r d = inr (omega arith, omega arith)
+      go true true true false d = inr (omega arith, omega arith)
+      go true true true true false = inr (omega arith, omega arith)
+      go true true true true true = inl refl
+
+  -- so it is no other
+  pub store-not : (s : List ℕ) (k : ℕ) → (k ≡ 0 → ⊥) → (IsFault k → ⊥) → storeNumber f s ≡ k → ⊥
+  store-not s k z n e = ⊎-elim (λ q. z (sym e ∙ q)) (λ q. n (rw e at q)) (store-either s)
 
   -- Each answer of an unbroken store
 
@@ -90,21 +87,6 @@ module _ (f : Form) where
     pub begins : getD s (answerStart f i s) 0 ≡ 0x76
     pub allowed : nameNumber (nameAt f i s) ≡ 0
     pub new : repeats f i s ≡ false
-
-  -- what placeRight says, and the other way round
-  pub place-facts : (i : ℕ) (s : List ℕ) → placeRight f i s ≡ true
-      → (entryOffset f i s ≡ filledTo f i s) × (2 ≤ entryLength f i s) × (filledTo f i s + entryLength f i s ≤ streamLength f s)
-  unfolding placeRight
-  place-facts i s h =
-      let p = and-left (eqb (entryOffset f i s) (filledTo f i s)) _ h in
-      let q = and-right (eqb (entryOffset f i s) (filledTo f i s)) _ h in
-      (eqb-true _ _ p, leb-true _ _ (and-left (leb 2 (entryLength f i s)) _ q), leb-true _ _ (and-right (leb 2 (entryLength f i s)) _ q))
-
-  pub place-built : (i : ℕ) (s : List ℕ) → entryOffset f i s ≡ filledTo f i s → 2 ≤ entryLength f i s → filledTo f i s + entryLength f i s ≤ streamLength f s
-      → placeRight f i s ≡ true
-  unfolding placeRight
-  place-built i s o l w =
-      rw (eq-eqb (entryOffset f i s) (filledTo f i s) o, le-leb 2 (entryLength f i s) l, le-leb (filledTo f i s + entryLength f i s) (streamLength f s) w)
 
   -- the places of all, and that they fill the stream
   module _ (s : List ℕ) (h : placesRight f s ≡ true) where
@@ -122,12 +104,12 @@ module _ (f : Form) where
   unfolding answersRight answerRight namesDiffer
   held s e i h =
       let u = unbroken s e in
-      let p = place-facts i s (places-at s (u .places) i h) in
+      let p = placed-is f s i (places-at s (u .places) i h) in
       let a : answerRight f i s ≡ true = not-false _ (none-at (λ j. not (answerRight f j s)) (answers f s) (u .right) i h) in
       record {
-        placed = p .0;
-        long = p .1;
-        inside = omega (arith, p .0, p .2);
+        placed = p .offset;
+        long = p .long;
+        inside = omega (arith, p .offset, p .inside);
         begins = eqb-true _ _ (and-left (eqb (getD s (answerStart f i s) 0) 0x76) _ a);
         allowed = eqb-true _ _ (and-right (eqb (getD s (answerStart f i s) 0) 0x76) _ a);
         new = none-at (λ j. repeats f j s) (answers f s) (u .differ) i h;
@@ -193,7 +175,7 @@ module _ (f : Form) where
     pub lookup-missing-only : lookupNumber f name s ≡ 6 → Both (storeNumber f s ≡ 0) (Missing f name s)
     unfolding lookupNumber
     lookup-missing-only e =
-        let o = or-is (storeNumber f s) 5 _ 6 (store-either s) refl refl e in
+        let o = or-is (storeNumber f s) _ 6 (store-not s 6 (λ z. omega arith) (λ q. omega (arith, q .0))) e in
         let n = unless-fails (isHeld f name s) 6 0 (λ z. omega arith) (o .rest) in
         record { first = o .first; rest = not-held f name s n }
 

@@ -1,13 +1,15 @@
--- "5: store breaks its rules": an ordered list of checks, each over all entries before the next.
+-- The rules of a store, and its fault (document 02, Req 06): "Checks run in that order, each over all entries from the
+-- first before the next check, and give the entry's position from zero".
 use Prim.Native.Nat.{ℕ, zero, suc, _+_}
-use mathlib.Core.Bool.{Bool, not, _&&_}
+use mathlib.Core.Bool.{Bool, cond, not, _&&_}
 use mathlib.Core.List.{List}
 use lib.ListN.{length, getD}
 use lib.Dec.{eqb, leb}
 use Rattle.octets.specs.Order.{unless}
-use Rattle.octets.specs.Search.{anyOf, noneOf}
-use Rattle.octets.specs.Numbers.{done, storeBroken}
+use Rattle.octets.specs.Search.{firstOf, anyOf, noneOf}
+use Rattle.octets.specs.Numbers.{done, storeShort, storeBounds, storeEntry, storeAnswer, storeTwice}
 use Rattle.catalog.specs.Name.{sameAnswer, nameNumber}
+use Rattle.store.specs.declared.Fault.{Fault}
 use Rattle.store.specs.Layout.{Form, headerSize, answers, streamLength, entryOffset, entryLength}
 use Rattle.store.specs.Layout.{storeLength, answerStart, nameAt}
 
@@ -25,7 +27,7 @@ module _ (f : Form) where
   filledTo zero s = 0
   filledTo (suc i) s = filledTo i s + entryLength f i s
 
-  -- "offsets without gap", "length (.. at least 2)"
+  -- "offsets without gap", "length (.. at least 2)"; "A length under 2 or an end past the stream length is 15"
   unfoldable pub placeRight : ℕ → List ℕ → Bool
   placeRight i s =
       eqb (entryOffset f i s) (filledTo i s)
@@ -51,11 +53,39 @@ module _ (f : Form) where
   unfoldable pub namesDiffer : List ℕ → Bool
   namesDiffer s = noneOf (λ i. repeats i s) (answers f s)
 
+-- a number of the five and where; "number 0: position 0"
+abbrev pub faultAt : ℕ → ℕ → Fault
+faultAt number position = record { number = number; position = position }
+
+abbrev pub noFault : Fault
+noFault = faultAt done 0
+
+module _ (f : Form) where
+  -- "13 and 14 the header's answer count"; "A buffer too short for its header is 13 with position 0"
+  unfoldable pub countRead : List ℕ → ℕ
+  countRead s = cond (leb (headerSize f) (length s)) (answers f s) 0
+
+  -- the first entry whose offset or length is wrong; "answers that end short of it .. the answer count as position"
+  abbrev pub misplacedAt : List ℕ → ℕ
+  misplacedAt s = firstOf (λ i. not (placeRight f i s)) (answers f s)
+
+  -- the first answer whose first two bytes or day are wrong
+  abbrev pub wrongAt : List ℕ → ℕ
+  wrongAt s = firstOf (λ i. not (answerRight f i s)) (answers f s)
+
+  -- "17 the first that repeats an earlier one"
+  abbrev pub repeatAt : List ℕ → ℕ
+  repeatAt s = firstOf (λ i. repeats f i s) (answers f s)
+
+  unfoldable pub storeFault : List ℕ → Fault
+  storeFault s =
+      unless (headerFits f s) (faultAt storeShort (countRead s))
+      (unless (countsFit f s) (faultAt storeBounds (answers f s))
+      (unless (placesRight f s) (faultAt storeEntry (misplacedAt s))
+      (unless (answersRight f s) (faultAt storeAnswer (wrongAt s))
+      (unless (namesDiffer f s) (faultAt storeTwice (repeatAt s))
+      noFault))))
+
+  -- "Wherever 5 was given, exactly one of these is given now"
   unfoldable pub storeNumber : List ℕ → ℕ
-  storeNumber s =
-      unless (headerFits s) storeBroken
-      (unless (countsFit s) storeBroken
-      (unless (placesRight s) storeBroken
-      (unless (answersRight s) storeBroken
-      (unless (namesDiffer s) storeBroken
-      done))))
+  storeNumber s = storeFault s .number

@@ -7,14 +7,15 @@ use mathlib.Core.Logic.{_↔_, _⊎_, _≢_}
 use mathlib.Core.Path.{_≡_}
 use lib.ListN.{length, getD, take}
 use Rattle.octets.specs.Order.{unless}
-use Rattle.octets.specs.Numbers.{done, storeBroken, notHeld, notInTable}
+use Rattle.octets.specs.Numbers.{done, notHeld, notInTable}
 use Rattle.octets.specs.Buffer.{partAt}
 use Rattle.catalog.specs.Table.{listed}
 use Rattle.catalog.specs.Name.{dayNamed}
 use Rattle.catalog.specs.declared.AnswerName.{AnswerName}
 use Rattle.store.specs.Layout.{Form, Sized, narrow, answers, storeLength, nameAt}
 use Rattle.store.specs.Check.{headerFits, countsFit, placesRight, answersRight, namesDiffer, storeNumber}
-use Rattle.store.specs.Read.{lookupNumber, lookupPart, streamPlace, streamPart, heldAnswer}
+use Rattle.store.specs.Faults.{IsFault, FaultClaims, FaultExamples}
+use Rattle.store.specs.Read.{lookupNumber, lookupPart, streamPlace, streamPart, countHeld, heldAnswer}
 use Rattle.store.specs.Answer.{nameOf, answerNumber}
 use Rattle.store.specs.Contents.{Stored, nameFor, nothing, backToBack, storeOf, contents}
 use Rattle.store.specs.Contents.{isAmong, answerNamed, startOf, Holdable, OfForm}
@@ -22,7 +23,7 @@ use Rattle.store.specs.Contents.{isAmong, answerNamed, startOf, Holdable
 -- Numbers
 
 module _ (f : Form) where
-  -- "5: store breaks its rules": one of the five checks of Check.antt fails
+  -- "5: store breaks its rules" (document 01): one of the five checks of Check.antt fails
   pub data Broken (s : List ℕ) : Type 0 where
     header : headerFits f s ≡ false → Broken s
     counts : countsFit f s ≡ false → Broken s
@@ -51,12 +52,18 @@ module _ (f : Form) where
 
 module _ (f : Form) where
   pub record NumberClaims : Type 0 where
-    -- "5: store breaks its rules": the check, a lookup, the stream and the i-th answer
-    pub five : (s : List ℕ) → (storeNumber f s ≡ storeBroken) ↔ Broken f s
-    pub fiveOnly : (s : List ℕ) → (storeNumber f s ≡ done) ⊎ (storeNumber f s ≡ storeBroken)
-    pub lookupFive : (name : AnswerName) (s : List ℕ) → (lookupNumber f name s ≡ storeBroken) ↔ Broken f s
-    pub streamFive : (s : List ℕ) → (streamPlace f s .number ≡ storeBroken) ↔ Broken f s
-    pub heldFive : (i : ℕ) (s : List ℕ) → (heldAnswer f i s .number ≡ storeBroken) ↔ Broken f s
+    -- "Wherever 5 was given, exactly one of these is given now" (document 02, Req 06): the check
+    pub broken : (s : List ℕ) → IsFault (storeNumber f s) ↔ Broken f s
+    -- a lookup, the stream, the count and the i-th answer
+    pub lookupFault : (name : AnswerName) (s : List ℕ) (k : ℕ) → IsFault k
+        → (lookupNumber f name s ≡ k) ↔ (storeNumber f s ≡ k)
+    pub streamFault : (s : List ℕ) → streamPlace f s .number ≡ storeNumber f s
+    pub countFault : (s : List ℕ) → countHeld f s .number ≡ storeNumber f s
+    pub heldFault : (i : ℕ) (s : List ℕ) (k : ℕ) → IsFault k
+        → (heldAnswer f i s .number ≡ k) ↔ (storeNumber f s ≡ k)
+    -- 5 itself by none; the stream and the count give the check's number, which is none but 0 and these
+    pub lookupNotFive : (name : AnswerName) (s : List ℕ) → lookupNumber f name s ≢ 5
+    pub heldNotFive : (i : ℕ) (s : List ℕ) → heldAnswer f i s .number ≢ 5
     -- "6: answer not held"
     pub six : (name : AnswerName) (s : List ℕ)
         → (lookupNumber f name s ≡ notHeld) ↔ ((storeNumber f s ≡ done) × Missing f name s)
@@ -115,6 +122,8 @@ pub record NarrowClaims : Type 0 where
 
 pub record StoreClaims : Type 0 where
   pub numbers : (f : Form) → NumberClaims f
+  pub faults : (f : Form) → FaultClaims f
+  pub faultExamples : FaultExamples
   -- 12 for an answer on its own
   pub twelve : (answer : List ℕ) (day : ℕ) → (answerNumber answer day ≡ notInTable) ↔ Unlisted answer day
   pub twelveOnly : (answer : List ℕ) (day : ℕ)

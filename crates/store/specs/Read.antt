@@ -25,7 +25,7 @@ module _ (f : Form) where
   abbrev pub isHeld : AnswerName → List ℕ → Bool
   isHeld name s = anyOf (λ i. sameAnswer (nameAt f i s) name) (answers f s)
 
-  -- "Lookup: 5, 6 (unlisted names too)"
+  -- "Lookup: 5, 6 (unlisted names too)", with the number of the fault for 5
   unfoldable pub lookupNumber : AnswerName → List ℕ → ℕ
   lookupNumber name s = orElse (storeNumber f s) (unless (isHeld name s) notHeld done)
 
@@ -42,7 +42,7 @@ module _ (f : Form) where
   unfoldable pub lookupPart : AnswerName → List ℕ → List ℕ
   lookupPart name s = partAt (lookupPlace name s .start) (lookupPlace name s .len) s
 
-  -- the stream (DDP_034): 5 where the store is broken
+  -- the stream (DDP_034), unless the store is broken
   unfoldable pub streamPlace : List ℕ → Place
   streamPlace s = placeBy (storeNumber f s) (streamStart f s) (streamLength f s)
 
@@ -53,7 +53,7 @@ module _ (f : Form) where
   unfoldable pub countHeld : List ℕ → Counted
   countHeld s = countedBy (storeNumber f s) (answers f s)
 
-  -- the i-th answer: 5, then 6 where the store has no more answers
+  -- the i-th answer: the store's number, then 6 where it has no more answers
   unfoldable pub heldNumber : ℕ → List ℕ → ℕ
   heldNumber i s = orElse (storeNumber f s) (unless (ltb i (answers f s)) notHeld done)
 

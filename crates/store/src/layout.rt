@@ -4,6 +4,7 @@ use catalog::AnswerName;
 ghost use mathlib.Core.Path.{_≡_};
 ghost use Prim.Native.Nat.{_+_, _<_, _≤_};
 ghost use lib.ListN.{length};
+ghost use Rattle.octets.specs.Search.{firstOf};
 ghost use Rattle.fields.specs.BigEndian.{numberAt};
 ghost use Rattle.catalog.specs.Name.{sameAnswer};
 ghost use Rattle.store.specs.Layout.{narrow, entrySize, entryStart, answers, streamLength, streamStart, entryDay};
@@ -100,4 +101,19 @@ pub(crate) fn has_name(store: &[u8], i: usize, name: AnswerName) -> bool
         return false;
     }
     catalog::same_answer(name_at(store, i), name)
+}
+
+// Which of the first `count` answers has this name, from 0; `count` where none has.
+pub(crate) fn first_named(store: &[u8], count: usize, name: AnswerName) -> usize
+    requires { ⌜ entryStart narrow count ≤ length (now store) ⌝ }
+    ensures { λ r. ⌜ r ≡ firstOf (λ i. sameAnswer (nameAt narrow i (now (store .entry))) name) count ⌝ }
+{
+    let mut i = 0;
+    while i < count {
+        if has_name(store, i, name) {
+            return i;
+        }
+        i += 1;
+    }
+    i
 }

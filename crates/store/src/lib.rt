@@ -12,6 +12,14 @@ pub const ANSWERS_MOST: usize = 64;
 
 pub const STREAM_MOST: usize = 60000;
 
+// What is broken in a store (document 02, Req 06), and where: the header's count of answers, 0 where the buffer is too
+// short for a header, or the entry from 0. Number 0 and position 0: nothing.
+#[repr(C)]
+pub struct Fault {
+    pub number: u8,
+    pub position: usize,
+}
+
 // Where two answers lie: the number of the store's check beside their places.
 pub struct TwoPlaces {
     pub number: u8,

@@ -7,28 +7,10 @@ use octets::Counted;
 use octets::Place;
 use octets::numbers::NOT_HELD;
 ghost use mathlib.Core.Path.{_≡_};
-ghost use Prim.Native.Nat.{_<_, _≤_};
-ghost use lib.ListN.{length};
-ghost use Rattle.store.specs.Layout.{narrow, streamStart};
+ghost use Rattle.store.specs.Layout.{narrow};
 ghost use Rattle.store.specs.Check.{storeNumber};
-ghost use Rattle.store.specs.Read.{position, lookupNumber, lookupPlace, lookupBoth, lookupPart, streamPlace};
+ghost use Rattle.store.specs.Read.{lookupNumber, lookupPlace, lookupBoth, lookupPart, streamPlace};
 ghost use Rattle.store.specs.Read.{streamPart, countHeld, heldAnswer};
-
-// Which answer has this name, from 0; the count of answers where none has.
-pub(crate) fn position(store: &[u8], name: AnswerName) -> usize
-    requires { ⌜ streamStart narrow (now store) ≤ length (now store) ⌝ }
-    ensures { λ r. ⌜ (r ≡ position narrow name (now (store .entry))) × (r < 4294967296) ⌝ }
-{
-    let n = crate::layout::answers(store);
-    let mut i = 0;
-    while i < n {
-        if crate::layout::has_name(store, i, name) {
-            return i;
-        }
-        i += 1;
-    }
-    i
-}
 
 // Where the answer with this name lies in a store that was checked: 6 where it is not held. FF is no TREP, and nothing
 // is looked for.
@@ -39,8 +21,9 @@ fn find(store: &[u8], name: AnswerName) -> Place
     if name.trep == ABSENT {
         return octets::refused_place(NOT_HELD);
     }
-    let i = position(store, name);
-    if crate::layout::answers(store) <= i {
+    let n = crate::layout::answers(store);
+    let i = crate::layout::first_named(store, n, name);
+    if n <= i {
         return octets::refused_place(NOT_HELD);
     }
     Place {
@@ -50,7 +33,7 @@ fn find(store: &[u8], name: AnswerName) -> Place
     }
 }
 
-// Where the answer with this name lies: 5 for a broken store, 6 where it is not held.
+// Where the answer with this name lies: the number of a broken store, 6 where it is not held.
 pub fn locate(store: &[u8], name: AnswerName) -> Place
     ensures { λ r. ⌜ r ≡ lookupPlace narrow name (now (store .entry)) ⌝ }
 {
@@ -95,7 +78,7 @@ pub fn lookup(store: &[u8], name: AnswerName) -> &[u8]
     octets::buffer::part(store, locate(store, name))
 }
 
-// Where the stream lies (DDP_034): 5 for a broken store.
+// Where the stream lies (DDP_034), or the number of a broken store.
 pub fn locate_stream(store: &[u8]) -> Place
     ensures { λ r. ⌜ r ≡ streamPlace narrow (now (store .entry)) ⌝ }
 {
@@ -117,7 +100,7 @@ pub fn stream(store: &[u8]) -> &[u8]
     octets::buffer::part(store, locate_stream(store))
 }
 
-// How many answers the store holds: 5 for a broken store.
+// How many answers the store holds, or the number of a broken store.
 pub fn count(store: &[u8]) -> Counted
     ensures { λ r. ⌜ r ≡ countHeld narrow (now (store .entry)) ⌝ }
 {
@@ -131,7 +114,7 @@ pub fn count(store: &[u8]) -> Counted
     }
 }
 
-// Answer `k`, from 0: 5 for a broken store, 6 where it holds no more than `k`.
+// Answer `k`, from 0: the number of a broken store, 6 where it holds no more than `k`.
 pub fn held(store: &[u8], k: usize) -> HeldAnswer
     ensures { λ r. ⌜ r ≡ heldAnswer narrow k (now (store .entry)) ⌝ }
 {

@@ -66,7 +66,7 @@ unfoldable pub replyTo : Addresses → List ℕ → List ℕ
 replyTo a [] = []
 replyTo a (x ∷ d) = frameOf a ends.Tool (x ∷ d)
 
--- "5, 11, 4 (reply buffer under 260)"
+-- "5, 11, 4 (reply buffer under 260)", with the number of the store's fault for 5 (document 02, Req 06)
 unfoldable pub numberBefore : ℕ → Bool → ℕ → ℕ
 numberBefore broken isPossible outLen =
     orElse broken
@@ -74,7 +74,7 @@ numberBefore broken isPossible outLen =
     (unless (leb frameMost outLen) bufferShort
     done))
 
--- "Unit call: 5, 11, 4 (reply buffer under 260), then frame numbers"
+-- "Unit call: 5, 11, 4 (reply buffer under 260), then frame numbers", with the number of the store's fault for 5
 unfoldable pub unitNumber : Addresses → List ℕ → ℕ → UnitState → List ℕ → ℕ
 unitNumber a store outLen u b =
     orElse (numberBefore (storeNumber narrow store) (possible store u) outLen)

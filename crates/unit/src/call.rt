@@ -114,7 +114,8 @@ fn answer(
     }
 }
 
-// One frame at the unit. Refused by 5, 11, 4 and the frame's number, in this order; then nothing changes.
+// One frame at the unit. Refused by the number of a broken store, 11, 4 and the frame's number, in this order; then
+// nothing changes.
 // Else the next state, and the reply at the front of `reply`. The store is checked once for both lookups.
 pub fn step(state: UnitState, store: &[u8], frame: &[u8], reply: &mut [u8]) -> UnitReply
     ensures { λ r. ⌜

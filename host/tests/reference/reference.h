@@ -1,5 +1,5 @@
 /*
- * A plain C implementation of document 01, written from the document alone, for comparison in tests and benchmarks.
+ * A plain C implementation of documents 01 and 02, written from them alone, for comparison in tests and benchmarks.
  * The calls are those of tacho.h under another prefix, and have their types; places in a packed state are those that
  * tacho.h names.
  */
@@ -34,6 +34,7 @@ REF_CALL(frame_data);
 REF_CALL(frame_write);
 REF_CALL(sub_messages);
 REF_CALL(sub_message);
+REF_CALL(store_fault);
 REF_CALL(store_check);
 REF_CALL(store_lookup);
 REF_CALL(store_stream);

@@ -1,4 +1,4 @@
-/* Document 01, Transfer types, Bench store and Record arrays. */
+/* Document 01, Transfer types, Bench store and Record arrays; document 02, Req 06. */
 #include "reference.h"
 #include "tables.h"
 
@@ -85,23 +85,30 @@ static const uint8_t *answer(const uint8_t *s, size_t i)
     return s + stream_at(count_of(s)) + offset_of(s, i);
 }
 
-uint8_t ref_store_check(const uint8_t *s, size_t len)
+/* Each check over all entries, the first entry first, before the next. */
+tacho_fault ref_store_fault(const uint8_t *s, size_t len)
 {
-    if (len < REF_STORE_HEADER) return 5;
-    size_t n = count_of(s), t = stream_len_of(s), at = 0;
-    if (len < stream_at(n) + t || n > 64 || t > 60000) return 5;
+    if (len < REF_STORE_HEADER) return (tacho_fault){13, 0};
+    size_t n = count_of(s), t = stream_len_of(s), end = 0;
+    if (len < stream_at(n) + t) return (tacho_fault){13, n};
+    if (n > 64 || t > 60000) return (tacho_fault){14, n};
     for (size_t i = 0; i < n; i++) {
         size_t l = len_of(s, i);
-        if (offset_of(s, i) != at || l < 2 || at + l > t) return 5;
-        at += l;
+        if (offset_of(s, i) != end || l < 2 || end + l > t) return (tacho_fault){15, i};
+        end += l;
     }
-    if (at != t) return 5;
+    if (end < t) return (tacho_fault){15, n};
     for (size_t i = 0; i < n; i++)
-        if (answer(s, i)[0] != 0x76 || !ref_named(answer(s, i)[1], day_of(s, i))) return 5;
+        if (answer(s, i)[0] != 0x76 || !ref_named(answer(s, i)[1], day_of(s, i))) return (tacho_fault){16, i};
     for (size_t i = 0; i < n; i++)
         for (size_t j = 0; j < i; j++)
-            if (answer(s, i)[1] == answer(s, j)[1] && day_of(s, i) == day_of(s, j)) return 5;
-    return 0;
+            if (answer(s, i)[1] == answer(s, j)[1] && day_of(s, i) == day_of(s, j)) return (tacho_fault){17, i};
+    return (tacho_fault){0, 0};
+}
+
+uint8_t ref_store_check(const uint8_t *s, size_t len)
+{
+    return ref_store_fault(s, len).number;
 }
 
 tacho_part ref_store_find(const uint8_t *s, uint8_t trep, uint32_t day)
@@ -115,13 +122,15 @@ tacho_part ref_store_find(const uint8_t *s, uint8_t trep, uint32_t day)
 
 tacho_part ref_store_lookup(const uint8_t *s, size_t len, uint8_t trep, uint32_t day)
 {
-    if (ref_store_check(s, len)) return (tacho_part){5, 0, 0};
+    uint8_t number = ref_store_check(s, len);
+    if (number) return (tacho_part){number, 0, 0};
     return ref_store_find(s, trep, day);
 }
 
 tacho_part ref_store_stream(const uint8_t *s, size_t len)
 {
-    if (ref_store_check(s, len)) return (tacho_part){5, 0, 0};
+    uint8_t number = ref_store_check(s, len);
+    if (number) return (tacho_part){number, 0, 0};
     return (tacho_part){0, stream_at(count_of(s)), stream_len_of(s)};
 }
 
@@ -142,7 +151,8 @@ tacho_held ref_store_answer(const uint8_t *s, size_t len, size_t k)
 
 tacho_written ref_store_append(uint8_t *s, size_t len, const uint8_t *a, size_t a_len, uint32_t day)
 {
-    if (ref_store_check(s, len)) return (tacho_written){5, 0};
+    uint8_t number = ref_store_check(s, len);
+    if (number) return (tacho_written){number, 0};
     if (a_len < 2 || a[0] != 0x76 || !ref_named(a[1], day)) return (tacho_written){12, 0};
     if (ref_store_find(s, a[1], day).number == 0) return (tacho_written){7, 0};
     size_t n = count_of(s), t = stream_len_of(s);

@@ -167,7 +167,8 @@ tacho_written ref_unit_step(uint8_t *state, size_t state_len, const uint8_t *sto
                             size_t frame_len, uint8_t *reply, size_t reply_len)
 {
     unit u;
-    if (ref_store_check(store, store_len)) return (tacho_written){5, 0};
+    uint8_t number = ref_store_check(store, store_len);
+    if (number) return (tacho_written){number, 0};
     if (!unpack(state, state_len, &u) || !possible(&u, store)) return (tacho_written){11, 0};
     if (reply_len < 260) return (tacho_written){4, 0};
     tacho_part d = ref_frame_data(frame, frame_len, false);
