@@ -8,22 +8,22 @@ use native.Mathlib.Decide.{decLt}
 use native.Mathlib.Numerals.{add-one}
 use lib.Dec.{eqb, leb}
 use lib.ListN.{length, getD}
-use borrow.Author.Tests.{lt-ltb, le-ltb, le-leb, lt-leb, eq-eqb, ne-eqb, not-true}
+use borrow.Author.Tests.{lt-ltb, le-ltb, le-leb, lt-leb, eq-eqb, ne-eqb}
 use Rattle.fields.specs.BigEndian.{numberOf}
 use Rattle.octets.specs.Order.{unless}
 use Rattle.octets.specs.Search.{firstFrom, firstOf}
-use Rattle.octets.proofs.SearchLaws.{search-hit, search-end, none-hit, none-end, none-built}
+use Rattle.octets.proofs.SearchLaws.{search-hit, search-end, none-hit, none-end}
 use Rattle.fields.proofs.NumberLaws.{read-two, read-four}
 use Rattle.catalog.specs.Name.{sameAnswer, nameNumber}
 use Rattle.catalog.specs.declared.AnswerName.{AnswerName}
-use Rattle.catalog.proofs.NameLaws.{same-not, other-day}
+use Rattle.catalog.proofs.NameLaws.{other-day}
 use Rattle.store.specs.declared.Fault.{Fault}
 use Rattle.store.specs.Layout.{Form, headerSize, entrySize, entryStart, answers, streamLength, streamStart, entryDay, entryOffset}
 use Rattle.store.specs.Layout.{entryLength, answerStart, nameAt}
 use Rattle.store.specs.Check.{headerFits, countsFit, filledTo, placeRight, placesRight, answerRight, answersRight, repeats, namesDiffer}
 use Rattle.store.specs.Check.{faultAt, noFault, countRead, misplacedAt, wrongAt, repeatAt, storeFault, storeNumber}
 use Rattle.store.proofs.FormLaws.{entry-size, entry-below}
-use Rattle.store.proofs.FactLaws.{whole-is, placed-is}
+use Rattle.store.proofs.FactLaws.{whole-is, placed-is, new-passes}
 use Rattle.store.proofs.NumberLaws.{first-13, first-14, first-15, first-16, first-17, first-0, past-13}
 
 -- the fields of an entry that lies in the buffer, from its bytes; at is where it starts
@@ -212,10 +212,9 @@ module _ (f : Form) (s : List ℕ) where
         ]
 
     pub new-above : (here : ℕ) → here ≡ rankOf name → above ≤ here → repeats f i s ≡ false
-    unfolding repeats RankedBelow
+    unfolding RankedBelow
     new-above here e l =
-        not-true _ (none-built (λ j. sameAnswer (nameAt f j s) (nameAt f i s)) i
-        (λ j h. same-not _ _ (λ q. let z : rankOf (nameAt f j s) ≡ rankOf name = rw (is, q) in omega (arith, ranked j h))))
+        new-passes f s i (λ j h q. let z : rankOf (nameAt f j s) ≡ rankOf name = rw (is, q) in omega (arith, ranked j h))
 
     -- a name that was looked for among them; p is where it was found first, i where nowhere
     module _ (p : ℕ) (found : p ≡ firstOf (λ j. sameAnswer (nameAt f j s) name) i) where
