@@ -4,6 +4,7 @@
 #include "options.h"
 #include "tacho.h"
 
+#include <ctype.h>
 #include <stdio.h>
 #include <stdlib.h>
 #include <string.h>
@@ -15,8 +16,8 @@ static const char help[] =
     "  --rate N         baud rate of the port (default 9600)\n"
     "  --parity WHICH   even, odd or none (default even: Appendix 6 asks for it, which is not among this\n"
     "                   build's sources)\n"
-    "  --answers LIST   what to ask for, in this order: TREPs in hexadecimal, activities with their day in seconds since 1970,\n"
-    "                   as 00,31,32@86400,33,24,35\n"
+    "  --answers LIST   what to ask for, in this order: TREPs in hexadecimal, activities with any second of the day since 1970 (0 where\n"
+    "                   none stands), as 00,31,32@129600,33,24,35; what is listed twice comes twice, a day by two of its seconds too\n"
     "  --out FILE       where the stream goes when all was downloaded: each answer as 76, TREP, data, back to back (DDP_034)\n"
     "  --wait N         milliseconds until a reply begins (P2, at most 1,000; default 1000); 5,000 behind 'response pending' (P3)\n"
     "  --silence N      so many milliseconds without a byte end a string (P1 is at most 20; default 25: a byte takes over 1 by itself,\n"
@@ -51,7 +52,7 @@ static void progress(const char *what, bool end)
     if (!isatty(STDERR_FILENO)) return;
     if (end || held() < shown || held() >= shown + 4096) {
         shown = end ? 0 : held();
-        fprintf(stderr, "\r%-40s %8zu bytes%s", what, held(), end ? "\r" : "");
+        fprintf(stderr, "\r%-46s %8zu bytes%s", what, held(), end ? "\r" : "");
         fflush(stderr);
     }
 }
@@ -114,22 +115,30 @@ static bool ask(uint8_t request, uint8_t trep, uint32_t day, const char *what)
     return false;
 }
 
-/* The next answer of the list: false where it is malformed, as by a comma behind the last one. */
+/* The next answer of the list: false where it is malformed, as by a blank, a sign or a comma behind the last one. */
 static bool next_answer(const char **list, uint8_t *trep, uint32_t *day)
 {
     char *end;
     unsigned long t = strtoul(*list, &end, 16), d = 0;
-    if (end == *list || t > 0xFF) return false;
+    if (!isxdigit((unsigned char)**list) || t > 0xFF) return false;
     if (*end == '@') {
         const char *from = end + 1;
         d = strtoul(from, &end, 10);
-        if (end == from || d > 0xFFFFFFFFUL) return false;
+        if (!isdigit((unsigned char)*from) || d > 0xFFFFFFFFUL) return false;
     }
     if (*end != 0 && (*end != ',' || end[1] == 0)) return false;
     *trep = (uint8_t)t;
     *day = (uint32_t)d;
     *list = *end ? end + 1 : end;
     return true;
+}
+
+/* Whether a request for this TREP carries a day: it is longer then. */
+static bool dated(uint8_t trep)
+{
+    uint8_t fresh[TACHO_TOOL_STATE], out[TACHO_FRAME_MOST];
+    tacho_tool_fresh(fresh, sizeof fresh);
+    return tacho_tool_begin(fresh, sizeof fresh, TACHO_REQUEST_TRANSFER, trep, 0, out, sizeof out).len > 7;
 }
 
 /* Whether the list is one, and the table has all that it asks for; false with a message. */
@@ -196,10 +205,11 @@ static int download(const char *answers)
         uint8_t trep = 0;
         uint32_t day = 0;
         next_answer(&answers, &trep, &day);
-        snprintf(what, sizeof what, day ? "%s %02X, day %u" : "%s %02X", tacho_type_text(trep), trep, (unsigned)day);
+        snprintf(what, sizeof what, dated(trep) ? "%s %02X, second %u (day %u)" : "%s %02X", tacho_type_text(trep), trep, (unsigned)day,
+                 (unsigned)day / 86400);
         if (!ask_or_stop(TACHO_REQUEST_TRANSFER, trep, day, what)) return 1;
         if (!keep(room, held())) return 2;
-        printf("  %-40s %8zu bytes\n", what, held());
+        printf("  %-46s %8zu bytes\n", what, held());
         count++;
     }
     if (!ask_or_stop(TACHO_REQUEST_EXIT, 0, 0, "transfer exit")) return 1;

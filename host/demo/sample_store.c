@@ -4,8 +4,9 @@
 
 #include <stdio.h>
 
-static const struct { uint8_t trep; uint32_t day; size_t data; } answers[] = {
-    {0x00, 0, 2}, {0x31, 0, 900}, {0x32, 1700006400, 502}, {0x32, 1700092800, 4000}, {0x33, 0, 252}, {0x24, 0, 40000}, {0x35, 0, 1255},
+/* Activities come with a second of their day, at 08:15 and at 23:59:59; the store keeps the first second of the day. */
+static const struct { uint8_t trep; uint32_t second; size_t data; } answers[] = {
+    {0x00, 0, 2}, {0x31, 0, 900}, {0x32, 1700036100, 502}, {0x32, 1700179199, 4000}, {0x33, 0, 252}, {0x24, 0, 40000}, {0x35, 0, 1255},
 };
 
 int main(int argc, char **argv)
@@ -20,7 +21,7 @@ int main(int argc, char **argv)
         answer[0] = 0x76;
         answer[1] = answers[i].trep;
         for (size_t k = 0; k < answers[i].data; k++) answer[2 + k] = (uint8_t)(k * 7 + i);
-        tacho_written w = tacho_store_append(store, sizeof store, answer, 2 + answers[i].data, answers[i].day);
+        tacho_written w = tacho_store_append(store, sizeof store, answer, 2 + answers[i].data, answers[i].second);
         if (w.number) {
             fprintf(stderr, "%s %02X: %s (%u)\n", tacho_type_text(answers[i].trep), answers[i].trep, tacho_number_text(w.number), w.number);
             return 1;

@@ -25,10 +25,11 @@ extern "C" {
 _Static_assert(sizeof(size_t) == 8, "tacho.h is for 64-bit hosts");
 #endif
 
-/* The version of this interface: the first number grows where a name, a layout or a result changes, the second where calls are added. */
+/* The version of this interface: the first number grows where a name, a layout or what was given for an input that was taken changes, the
+ * second where calls are added or take what was refused before. */
 #define TACHO_VERSION_MAJOR 2
-#define TACHO_VERSION_MINOR 0
-#define TACHO_VERSION "2.0"
+#define TACHO_VERSION_MINOR 1
+#define TACHO_VERSION "2.1"
 
 /* Numbers: why a call is refused. No call gives 5; 13 to 17 say what makes bytes no bench store. */
 enum {
@@ -43,11 +44,11 @@ enum {
     TACHO_NOT_ARRAYS = 9,        /* the body is no run of record arrays */
     TACHO_NO_SUCH = 10,          /* no such array, record or sub message */
     TACHO_OUT_OF_TURN = 11,      /* impossible state, or a call out of turn */
-    TACHO_NOT_IN_TABLE = 12,     /* the answer or request is not in the table of transfer types, or its day is not allowed */
+    TACHO_NOT_IN_TABLE = 12,     /* the answer or request is not in the table of transfer types, or has a day outside activities */
     TACHO_STORE_SHORT = 13,      /* the buffer is shorter than its header says */
     TACHO_STORE_BOUNDS = 14,     /* too many answers, or a stream over its bound */
     TACHO_STORE_ENTRY = 15,      /* an entry's offset or length is wrong */
-    TACHO_STORE_ANSWER = 16,     /* an answer's first two bytes or its day are wrong */
+    TACHO_STORE_ANSWER = 16,     /* an answer's first two bytes are wrong, or its day: no multiple of 86,400, or not 0 outside activities */
     TACHO_STORE_TWICE = 17       /* the same TREP and day twice */
 };
 
@@ -77,7 +78,7 @@ enum {
     TACHO_OUTCOME_REFUSED = 5    /* ended by a wire code: tacho_tool_code */
 };
 
-/* Sizes in bytes. */
+/* Sizes in bytes. The day in a packed state is the second that was asked for, as it came. */
 enum {
     /* a packed unit: kind, rate, pending rate (0 none), phase, TREP, day (4), last number sent (2); the last seven zero unless sending */
     TACHO_UNIT_STATE = 11,
@@ -147,7 +148,9 @@ tacho_counted tacho_sub_messages(size_t data_len);
 /* Writes sub message `number`, from 1, as a frame to the tool; an unsplit answer is its number 1. Refused by 8, 10, 4. */
 tacho_written tacho_sub_message(const uint8_t *data, size_t data_len, uint8_t trep, uint16_t number, uint8_t *out, size_t out_len);
 
-/* The bench store: an answer begins 76 and its TREP. A buffer whose first four bytes are zero is an empty store. */
+/* The bench store: an answer begins 76 and its TREP. A buffer whose first four bytes are zero is an empty store.
+ * Activities (TREP 02, 22, 32) are of a day, which a call takes as any second of the day, in seconds since 1970: 86,399 is the first day's
+ * last second, 86,400 is of the next day. The store keeps the day's first second, a multiple of 86,400. All other answers have day 0. */
 
 /* What makes the buffer no store, and where: number 0 for an unbroken store at its front. The checks run in the order of the numbers, each
  * over all entries, from the first, before the next. Entries and answers count from zero. The position is
@@ -155,14 +158,14 @@ tacho_written tacho_sub_message(const uint8_t *data, size_t data_len, uint8_t tr
  *   14  the header's count of answers
  *   15  the first entry whose offset is not the sum of the lengths before it, whose length is under 2, or whose end is past the stream;
  *       the count of answers where they end before the stream does
- *   16  the first answer that does not begin 76 and a listed TREP, or whose day its TREP does not allow
+ *   16  the first answer that does not begin 76 and a listed TREP, or whose day is no multiple of 86,400, or not 0 outside activities
  *   17  the first answer with the TREP and day of an earlier one */
 tacho_fault tacho_store_fault(const uint8_t *store, size_t store_len);
 
 /* Its number: 0 for an unbroken store at the front of the buffer, else 13 to 17. */
 uint8_t tacho_store_check(const uint8_t *store, size_t store_len);
 
-/* The answer, as part of the buffer. Refused by 13 to 17, 6. */
+/* The answer, as part of the buffer; day: any second of the day for activities, else 0. Refused by 13 to 17, 6 (unlisted names too). */
 tacho_part tacho_store_lookup(const uint8_t *store, size_t store_len, uint8_t trep, uint32_t day);
 
 /* The stream (DDP_034): all answers back to back. Refused by 13 to 17. */
@@ -171,10 +174,12 @@ tacho_part tacho_store_stream(const uint8_t *store, size_t store_len);
 /* How many answers the store holds. Refused by 13 to 17. */
 tacho_counted tacho_store_count(const uint8_t *store, size_t store_len);
 
-/* Answer k, from zero: its TREP and day, and where it lies in the buffer. Refused by 13 to 17, 6 (no more than k answers). */
+/* Answer k, from zero: its TREP, the first second of its day, and where it lies in the buffer. Refused by 13 to 17, 6 (no more than k
+ * answers). */
 tacho_held tacho_store_answer(const uint8_t *store, size_t store_len, size_t k);
 
-/* Puts the answer last; store is the whole buffer, len the store's new length, bytes behind it stay. Refused by 13 to 17, 12, 7, 8, 4. */
+/* Puts the answer last; store is the whole buffer, len the store's new length, bytes behind it stay. day: any second of the day for
+ * activities, whose first second the store keeps; else 0. Refused by 13 to 17, 12, 7 (held under any second of the day), 8, 4. */
 tacho_written tacho_store_append(uint8_t *store, size_t store_len, const uint8_t *answer, size_t answer_len, uint32_t day);
 
 /* Record arrays (generation 2): body is an answer without its 76 and TREP; arrays and records count from zero. */
@@ -208,7 +213,8 @@ size_t tacho_unit_phase(const uint8_t *state, size_t state_len);
 /* Writes the state of a fresh tool. Refused by 4. Changes only the first TACHO_TOOL_STATE bytes. */
 uint8_t tacho_tool_fresh(uint8_t *state, size_t state_len);
 
-/* Begins a request; trep and day are 0 but for a transfer. Refused by 12, 11 (already waiting), 4 (out under 260). */
+/* Begins a request; trep and day are 0 but for a transfer. day: any second of the day for activities, which is sent as it is; else 0.
+ * Refused by 12, 11 (already waiting), 4 (out under 260). */
 tacho_written tacho_tool_begin(uint8_t *state, size_t state_len, uint8_t request, uint8_t trep, uint32_t day, uint8_t *out,
                                size_t out_len);
 

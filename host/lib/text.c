@@ -15,7 +15,7 @@ const char *tacho_number_text(uint8_t number)
     case TACHO_NOT_ARRAYS: return "the body is no run of record arrays";
     case TACHO_NO_SUCH: return "no such array, record or sub message";
     case TACHO_OUT_OF_TURN: return "impossible state, or a call out of turn";
-    case TACHO_NOT_IN_TABLE: return "not in the table of transfer types, or its day is not allowed";
+    case TACHO_NOT_IN_TABLE: return "not in the table of transfer types, or a day outside activities";
     case TACHO_STORE_SHORT: return "the buffer is shorter than its header says";
     case TACHO_STORE_BOUNDS: return "too many answers, or a stream over its bound";
     case TACHO_STORE_ENTRY: return "an entry's offset or length is wrong";

@@ -1,7 +1,8 @@
 /*
  * Every call of tacho.h against the plain C reference, on random, valid and damaged inputs in random states: the same
  * results and the same bytes in every buffer, inputs untouched, nothing changed by a refused call, no byte outside the
- * buffers touched. Each call gives each of its numbers, and no other. Some checksums are compared with sums by hand.
+ * buffers touched. Each call gives each of its numbers, and no other. Activities are asked for by any second of their
+ * day, and what that can come to does come. Some checksums are compared with sums by hand.
  *
  *   differential [ROUNDS [SEED]]
  */
@@ -76,11 +77,41 @@ static void count_number(call c, unsigned number)
     fail("%s gave %u, which is not among its numbers", CALL[c].name, number);
 }
 
-/* A number that a call never gave was not compared there: the inputs have to reach it. Gives the count of all calls. */
+/* What a day by any second in it comes to (document 02, Req 03), which the numbers do not show. A second inside a day is any but its first;
+ * a second of the other day is one next to a day that the store holds. */
+typedef enum {
+    FOUND_INSIDE, NOT_FOUND_BESIDE, APPENDED_INSIDE, APPENDED_BESIDE, HELD_INSIDE, REQUESTED_INSIDE, NOT_HELD_BESIDE, SENT_ON_INSIDE,
+    BEGUN_INSIDE, WAITED_INSIDE, FOUND_AT_86399, FOUND_AT_86400, FOUND_AT_LAST, DAY_CASES
+} day_case;
+
+static const char *const DAY_CASE[DAY_CASES] = {
+    [FOUND_INSIDE] = "a lookup by a second inside a day found the answer",
+    [NOT_FOUND_BESIDE] = "a lookup by a second of the other day gave 6",
+    [APPENDED_INSIDE] = "an answer was appended by a second inside a day",
+    [APPENDED_BESIDE] = "an answer was appended by a second of the other day",
+    [HELD_INSIDE] = "an append by a second inside a day gave 7",
+    [REQUESTED_INSIDE] = "a unit answered a request by a second inside a day",
+    [NOT_HELD_BESIDE] = "a unit answered FA to a request by a second of the other day",
+    [SENT_ON_INSIDE] = "a unit whose state has a second inside a day went on sending",
+    [BEGUN_INSIDE] = "a transfer was begun by a second inside a day",
+    [WAITED_INSIDE] = "a tool waited in a transfer by a second inside a day",
+    [FOUND_AT_86399] = "a lookup by second 86,399 found an answer of day 0",
+    [FOUND_AT_86400] = "a lookup by second 86,400 found an answer of day 1",
+    [FOUND_AT_LAST] = "a lookup by second FFFFFFFF found an answer of day 49,710",
+};
+
+static unsigned long happened[DAY_CASES];
+
+/* A number that a call never gave was not compared there: the inputs have to reach it, and the cases of days. Gives the count of calls. */
 static unsigned long all_given(unsigned long rounds)
 {
     unsigned long calls = 0;
     unsigned missing = 0;
+    for (int c = 0; c < DAY_CASES; c++)
+        if (happened[c] == 0) {
+            fprintf(stderr, "it never happened that %s\n", DAY_CASE[c]);
+            missing++;
+        }
     for (int c = 0; c < CALLS; c++)
         for (const int *n = CALL[c].numbers; *n != END; n++) {
             calls += given[c][*n];
@@ -88,7 +119,7 @@ static unsigned long all_given(unsigned long rounds)
             fprintf(stderr, "%s never gave %d\n", CALL[c].name, *n);
             missing++;
         }
-    if (missing) fail("the inputs of %lu rounds do not reach %u of the numbers of the calls", rounds, missing);
+    if (missing) fail("the inputs of %lu rounds do not reach %u of the numbers of the calls and of the cases of days", rounds, missing);
     return calls;
 }
 
@@ -189,11 +220,38 @@ static uint8_t some_trep(void)
     return random_below(12) ? TREPS[random_below(sizeof TREPS)] : (uint8_t)random_below(256);
 }
 
+static bool is_dated(uint8_t trep)
+{
+    return memchr(DATED, trep, sizeof DATED);
+}
+
+/* The first second of a day: one of so many, or of the last two that four bytes can name. */
+static uint32_t some_first_second(uint32_t days)
+{
+    return 86400 * (random_below(8) ? random_below(days) : 49709 + random_below(2));
+}
+
+/* A second of the day that begins at this one, often at its edges, or one next to that day. Four bytes come round at their end. */
+static uint32_t some_second(uint32_t first)
+{
+    switch (random_below(10)) {
+    case 0: return first - 1;
+    case 1: return first + 86400;
+    case 2: return first + 86399;
+    case 3: return first + 1;
+    case 4: return first + 43200;
+    case 5: return first | 0xFFFF; /* less than a day later; of the last day it is the end, FFFFFFFF */
+    case 6: case 7: return first + random_below(86400);
+    default: return first;
+    }
+}
+
+/* The day beside a TREP: for activities any second, near the days that stores have; else mostly 0. */
 static uint32_t some_day(uint8_t trep)
 {
-    bool dated = (trep & 0x0F) == 2;
-    if (random_below(12) == 0) return random_below(0xFFFFFFFF);
-    return dated ? 86400 * random_below(4) : 0;
+    if (random_below(24) == 0) return random_below(0x10000) << 16 | random_below(0x10000);
+    if (is_dated(trep)) return some_second(some_first_second(4));
+    return random_below(24) ? 0 : some_second(0);
 }
 
 static size_t some_length(size_t most)
@@ -279,7 +337,7 @@ static size_t some_request(uint8_t *d, uint16_t near)
         uint32_t day = some_day(trep);
         uint8_t b[6] = {0x36, trep, REF_FOUR_BYTES(day)};
         memcpy(d, b, sizeof b);
-        return (trep & 0x0F) == 2 ? 6 : 2;
+        return is_dated(trep) ? 6 : 2;
     }
     uint16_t code = some_number(near);
     uint8_t b[4] = {0x83, 0x76, REF_TWO_BYTES(code)};
@@ -329,9 +387,10 @@ static void some_answers(uint8_t *s, size_t room)
         size_t n = answers > 5 ? 2 + random_below(8) : 2 + some_length(random_below(20) ? 800 : 59998);
         random_bytes(answer, n);
         answer[0] = 0x76;
-        answer[1] = full ? DATED[random_below(sizeof DATED)] : TREPS[random_below(sizeof TREPS)];
-        uint32_t day = full ? i : random_below(40);
-        ref_store_append(s, room, answer, n, (answer[1] & 0x0F) == 2 ? 86400 * day : 0);
+        bool dated = full || (answers < 5 && random_below(2)); /* long answers of some days too */
+        answer[1] = dated ? DATED[random_below(sizeof DATED)] : TREPS[random_below(sizeof TREPS)];
+        uint32_t day = full ? 86400 * i : some_first_second(40);
+        ref_store_append(s, room, answer, n, is_dated(answer[1]) ? day : 0);
     }
 }
 
@@ -366,7 +425,7 @@ static size_t some_store(uint8_t *s)
     return n;
 }
 
-/* The name of an answer in an unbroken store, if it has one. */
+/* The name of an answer in an unbroken store, if it has one; activities by a second of their day, or next to it. */
 static void name_in(const uint8_t *s, size_t n, uint8_t *trep, uint32_t *day)
 {
     *trep = some_trep();
@@ -375,7 +434,17 @@ static void name_in(const uint8_t *s, size_t n, uint8_t *trep, uint32_t *day)
     if (answers.count == 0 || random_below(5) == 0) return;
     tacho_held held = ref_store_answer(s, n, random_below((uint32_t)answers.count));
     *trep = held.trep;
-    *day = held.day;
+    *day = is_dated(held.trep) ? some_second(held.day) : held.day;
+}
+
+/* The frame of a request for an answer that the store holds, or for one beside it: so requests of activities meet their day. */
+static size_t some_held_request(uint8_t *f, const uint8_t *s, size_t n)
+{
+    uint8_t trep;
+    uint32_t day;
+    name_in(s, n, &trep, &day);
+    uint8_t d[6] = {0x36, trep, REF_FOUR_BYTES(day)};
+    return ref_frame_write(d, is_dated(trep) ? 6 : 2, false, f, 300).len;
 }
 
 /* The name of an answer that is split, and how many sub messages it takes; 0 where the store shows none. */
@@ -543,6 +612,51 @@ static void splitting(void)
     compare(SUB_MESSAGE, 2, of_written(w), of_written(v));
 }
 
+/* Which cases of days came about */
+
+static void count_day(day_case c, bool came_about)
+{
+    if (came_about) happened[c]++;
+}
+
+static bool is_inside(uint8_t trep, uint32_t second)
+{
+    return is_dated(trep) && second % 86400 != 0;
+}
+
+static bool is_beside(const uint8_t *s, size_t n, uint8_t trep, uint32_t second)
+{
+    if (!is_dated(trep) || ref_store_lookup(s, n, trep, second).number != 6) return false;
+    return ref_store_lookup(s, n, trep, second - 1).number == 0 || ref_store_lookup(s, n, trep, second + 1).number == 0;
+}
+
+static uint32_t four_at(const uint8_t *b)
+{
+    return (uint32_t)(two_at(b) << 16 | two_at(b + 2));
+}
+
+/* A step of the unit that was not refused: the state that it was handed, the frame that it heard and its reply. */
+static void count_unit_days(const uint8_t *state, const uint8_t *store, size_t n, const uint8_t *frame, size_t frame_len,
+                            const uint8_t *reply, size_t reply_len)
+{
+    if (frame_len <= REF_FRAME_DATA || reply_len == 0) return;
+    const uint8_t *data = frame + REF_FRAME_DATA, *said = reply + REF_FRAME_DATA;
+    if (data[0] == 0x36 && frame_len == REF_FRAME_DATA + 6 + 1) {
+        uint32_t second = four_at(data + 2);
+        count_day(REQUESTED_INSIDE, said[0] == 0x76 && is_inside(data[1], second));
+        count_day(NOT_HELD_BESIDE, said[0] == 0x7F && said[2] == 0xFA && is_beside(store, n, data[1], second));
+    }
+    if (data[0] == 0x83 && said[0] == 0x76)
+        count_day(SENT_ON_INSIDE, is_inside(state[TACHO_UNIT_AT_TREP], four_at(state + TACHO_UNIT_AT_DAY)));
+}
+
+/* An event of the tool that was not refused: the state that it was handed. */
+static void count_tool_days(const uint8_t *state)
+{
+    bool transfer = state[TACHO_TOOL_AT_REQUEST] == TACHO_REQUEST_TRANSFER;
+    count_day(WAITED_INSIDE, transfer && is_inside(state[TACHO_TOOL_AT_TREP], four_at(state + TACHO_TOOL_AT_DAY)));
+}
+
 static void appending(size_t n, uint8_t trep, uint32_t day)
 {
     size_t a = random_below(8) ? 2 + random_below(300) : some_length(60001);
@@ -560,6 +674,10 @@ static void appending(size_t n, uint8_t trep, uint32_t day)
     tacho_written w = tacho_store_append(store, room, answer, a, day);
     tacho_written v = ref_store_append(copy[0], room, copy[1], a, day);
     compare(STORE_APPEND, 2, of_written(w), of_written(v));
+    if (a < 2) return;
+    count_day(APPENDED_INSIDE, w.number == 0 && is_inside(more[1], day));
+    count_day(APPENDED_BESIDE, w.number == 0 && is_beside(bytes, n, more[1], day));
+    count_day(HELD_INSIDE, w.number == 7 && is_inside(more[1], day));
 }
 
 static void stores(void)
@@ -573,6 +691,11 @@ static void stores(void)
     name_in(bytes, n, &trep, &day);
     tacho_part p = tacho_store_lookup(s, n, trep, day), q = ref_store_lookup(copy[0], n, trep, day);
     compare(STORE_LOOKUP, 1, of_part(p), of_part(q));
+    count_day(FOUND_INSIDE, p.number == 0 && is_inside(trep, day));
+    count_day(NOT_FOUND_BESIDE, p.number == 6 && is_beside(bytes, n, trep, day));
+    count_day(FOUND_AT_86399, p.number == 0 && day == 86399);
+    count_day(FOUND_AT_86400, p.number == 0 && day == 86400);
+    count_day(FOUND_AT_LAST, p.number == 0 && day == 0xFFFFFFFF);
     p = tacho_store_stream(s, n), q = ref_store_stream(copy[0], n);
     compare(STORE_STREAM, 1, of_part(p), of_part(q));
     compare(STORE_COUNT, 1, of_counted(tacho_store_count(s, n)), of_counted(ref_store_count(copy[0], n)));
@@ -605,7 +728,8 @@ static void units(void)
     compare(UNIT_PHASE, 1, of_read(tacho_unit_phase(s, state_len)), of_read(ref_unit_phase(copy[0], state_len)));
     const uint8_t *store = lend(1, bytes, n);
     for (int step = 0; step < 6; step++) {
-        size_t frame_len = some_frame(frame, false, number_at(s, state_len, TACHO_UNIT_AT_LAST));
+        size_t frame_len = random_below(6) ? some_frame(frame, false, number_at(s, state_len, TACHO_UNIT_AT_LAST))
+                                           : some_held_request(frame, bytes, n);
         size_t room = random_below(12) ? 260 + random_below(3) : random_below(260);
         if (step) s = lend(0, s, state_len), store = lend(1, store, n);
         const uint8_t *f = lend(2, frame, frame_len);
@@ -613,6 +737,7 @@ static void units(void)
         tacho_written w = tacho_unit_step(s, state_len, store, n, f, frame_len, reply, room);
         tacho_written v = ref_unit_step(copy[0], state_len, copy[1], n, copy[2], frame_len, copy[3], room);
         compare(UNIT_STEP, 4, of_written(w), of_written(v));
+        if (w.number == 0) count_unit_days(before[0], bytes, n, frame, frame_len, reply, w.len);
     }
 }
 
@@ -626,6 +751,7 @@ static void tool_begins(uint8_t *s, size_t state_len, uint8_t *out, size_t out_l
     tacho_written w = tacho_tool_begin(s, state_len, request, trep, day, out, out_len);
     tacho_written v = ref_tool_begin(copy[0], state_len, request, trep, day, copy[2], out_len);
     compare(TOOL_BEGIN, 3, of_written(w), of_written(v));
+    count_day(BEGUN_INSIDE, w.number == 0 && request == TACHO_REQUEST_TRANSFER && is_inside(trep, day));
 }
 
 static void tool_hears(uint8_t *s, size_t state_len, uint8_t *room, size_t room_len, uint8_t *out, size_t out_len)
@@ -643,6 +769,7 @@ static void tool_hears(uint8_t *s, size_t state_len, uint8_t *room, size_t room_
     tacho_written w = tacho_tool_arrived(s, state_len, f, n, room, room_len, out, out_len);
     tacho_written v = ref_tool_arrived(copy[0], state_len, copy[3], n, copy[1], room_len, copy[2], out_len);
     compare(TOOL_ARRIVED, 4, of_written(w), of_written(v));
+    if (w.number == 0) count_tool_days(before[0]);
 }
 
 static void tool_waited(uint8_t *s, size_t state_len, uint8_t *room, size_t room_len, uint8_t *out, size_t out_len)
@@ -650,6 +777,7 @@ static void tool_waited(uint8_t *s, size_t state_len, uint8_t *room, size_t room
     tacho_written w = tacho_tool_wait_ended(s, state_len, room, room_len, out, out_len);
     tacho_written v = ref_tool_wait_ended(copy[0], state_len, copy[1], room_len, copy[2], out_len);
     compare(TOOL_WAIT_ENDED, 3, of_written(w), of_written(v));
+    if (w.number == 0) count_tool_days(before[0]);
 }
 
 static void tools(void)

@@ -1,7 +1,8 @@
 /*
  * One transfer between both ends over random lines, with the book of document 01 beside it (The line and the book):
  * after every event the tool waits or has ended as the book has, and holds 76, TREP and the data of the frames that the
- * book has taken; the rest of the room and of the tool's state is as document 01 says too.
+ * book has taken; the rest of the room and of the tool's state is as document 01 says too. Activities are stored and
+ * asked for by seconds of one day that are mostly not the same (document 02, Req 03).
  *
  *   download [TRANSFERS [SEED]]
  */
@@ -30,7 +31,7 @@ static uint8_t store[STORE], room[ROOM], room_at_begin[ROOM], answer[ROOM];
 static size_t store_len, answer_len, room_len, q;
 static string frames[FRAMES + 1];
 static uint8_t trep;
-static uint32_t day;
+static uint32_t day; /* the second that the tool asks for */
 
 /* Both ends, the line, the book (p and f) and what is counted. */
 static uint8_t unit[TACHO_UNIT_STATE], tool[TACHO_TOOL_STATE];
@@ -58,7 +59,7 @@ static void choose_answer(void)
     static const uint8_t treps[] = {0x31, 0x32, 0x33, 0x24, 0x35, 0x00};
     static const size_t lengths[] = {2, 254, 255, 256, 503, 504, 505, 1000, 3000};
     trep = treps[random_below(sizeof treps)];
-    day = trep == 0x32 ? 86400 * (1 + random_below(9)) : 0;
+    day = trep == 0x32 ? 86400 * (1 + random_below(9)) + random_below(86400) : 0;
     answer_len = random_below(40) ? lengths[random_below(9)] : 50000 + random_below(10001);
     random_bytes(answer, answer_len);
     answer[0] = 0x76;
@@ -80,7 +81,8 @@ static void set_up_unit(void)
     other[0] = 0x76;
     other[1] = sending;
     if (place) ref_store_append(store, STORE, other, sizeof other, 0);
-    tacho_written w = ref_store_append(store, STORE, answer, answer_len, day);
+    uint32_t second = trep == 0x32 ? day - day % 86400 + random_below(86400) : 0;
+    tacho_written w = ref_store_append(store, STORE, answer, answer_len, second);
     if (w.number) fail("the test's store refuses the answer by %u", w.number);
     store_len = w.len;
     tacho_unit_fresh(TACHO_KIND_GENERATION_2_VERSION_2, unit, sizeof unit);
@@ -88,6 +90,8 @@ static void set_up_unit(void)
     if (!place || random_below(2)) return;
     unit[TACHO_UNIT_AT_PHASE] = TACHO_PHASE_SENDING;
     unit[TACHO_UNIT_AT_TREP] = sending;
+    second = random_below(86400);
+    memcpy(unit + TACHO_UNIT_AT_DAY, (const uint8_t[]){REF_FOUR_BYTES(second)}, 4);
     memcpy(unit + TACHO_UNIT_AT_LAST, (const uint8_t[]){REF_TWO_BYTES(2)}, 2);
 }
 

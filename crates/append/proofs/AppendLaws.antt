@@ -24,9 +24,10 @@ use Rattle.store.specs.Read.{position, isHeld, lookupNumber, lookupPlace, looku
 use Rattle.store.specs.declared.TwoPlaces.{TwoPlaces}
 use Rattle.store.proofs.StoreLaws.{lookup-zero}
 use Rattle.store.proofs.StoreLaws as stores
+use Rattle.catalog.specs.Name.{rounded}
 use Rattle.catalog.specs.declared.AnswerName.{AnswerName}
 use Rattle.store.specs.Answer.{nameOf, answerNumber}
-use Rattle.append.specs.Append.{roomNumber, appendNumber, withAnswer}
+use Rattle.append.specs.Append.{roomNumber, appendNumber, withAnswer, appendOut}
 use Rattle.store.proofs.FormLaws.{header-size, entry-size}
 
 -- The room; m is the answer's length, n, t and b what the code read, e the size of an entry
@@ -50,16 +51,24 @@ module _ (f : Form) (m : ℕ) (s : List ℕ) (n : ℕ) (en : n ≡ answers f s) 
       unfolding roomNumber
       room-some h = rw (← eb, ← en, ← et, ← ee, le-leb (n + 1) (f .answersMost) few, le-leb (t + m) (f .streamMost) short, le-leb (b + t + e + m) (length s) h)
 
+-- The name, from the TREP that the code read
+pub name-given : (a : List ℕ) (day trep : ℕ) → trep ≡ getD a 1 0 → _≡_ {A = AnswerName} (record { trep = trep; day = day }) (nameOf a day)
+name-given a day trep e = rw e
+
 -- The number of an append; found are the store's number and the place of the name, u and q the numbers of the answer and the room
 
-module _ (f : Form) (a : List ℕ) (day : ℕ) (s : List ℕ) (trep : ℕ) (other : AnswerName) (found : TwoPlaces) (et : trep ≡ getD a 1 0)
-    (ef : found ≡ lookupBoth f (record { trep = trep; day = day }) other s) where
+module _ (f : Form) (a : List ℕ) (day : ℕ) (s : List ℕ) (name other : AnswerName) (found : TwoPlaces) (given : name ≡ nameOf a day)
+    (ef : found ≡ lookupBoth f name other s) where
+  -- the name under which a store keeps it
+  abbrev held : AnswerName
+  held = rounded (nameOf a day)
+
   store-part : found .number ≡ storeNumber f s
   store-part = ap (λ (p : TwoPlaces). p .number) ef
 
   held-part : found .first .number ≡ lookupNumber f (nameOf a day) s
   unfolding lookupPlace
-  held-part = ap (λ (p : TwoPlaces). p .first .number) ef ∙ rw et
+  held-part = ap (λ (p : TwoPlaces). p .first .number) ef ∙ rw given
 
   pub append-broken : (found .number ≡ 0 → ⊥) → found .number ≡ appendNumber f a day s
   unfolding appendNumber
@@ -77,20 +86,20 @@ module _ (f : Form) (a : List ℕ) (day : ℕ) (s : List ℕ) (trep : ℕ) (othe
       pub append-held : found .first .number ≡ 0 → 7 ≡ appendNumber f a day s
       unfolding appendNumber
       append-held h =
-          let held = stores.found f (nameOf a day) s (sym held-part ∙ h) in
-          rw (zero, ← eu, zu, lt-ltb (position f (nameOf a day) s) (answers f s) (held .below))
+          let below = stores.found f (nameOf a day) s (sym held-part ∙ h) .below in
+          rw (zero, ← eu, zu, lt-ltb (position f held s) (answers f s) below)
 
       pub append-room : (q : ℕ) → (found .first .number ≡ 0 → ⊥) → q ≡ roomNumber f (length a) s → q ≡ appendNumber f a day s
       unfolding appendNumber
       append-room q h e =
-          let none : isHeld f (nameOf a day) s ≡ false = not-found (λ l. h (held-part ∙ lookup-zero f (nameOf a day) s zero l)) in
+          let none : isHeld f held s ≡ false = not-found (λ l. h (held-part ∙ lookup-zero f (nameOf a day) s zero l)) in
           rw (zero, ← eu, zu, none) e
         where
-          not-found : (position f (nameOf a day) s < answers f s → ⊥) → isHeld f (nameOf a day) s ≡ false
+          not-found : (position f held s < answers f s → ⊥) → isHeld f held s ≡ false
           not-found n =
-              elim (decLt (position f (nameOf a day) s) (answers f s)) as (λ _. isHeld f (nameOf a day) s ≡ false) [
+              elim (decLt (position f held s) (answers f s)) as (λ _. isHeld f held s ≡ false) [
                 | yes l ↦ absurd (n l)
-                | no l ↦ le-ltb (position f (nameOf a day) s) (answers f s) (omega arith)
+                | no l ↦ le-ltb (position f held s) (answers f s) (omega arith)
               ]
 
 -- What number 0 says of an append
@@ -98,7 +107,7 @@ module _ (f : Form) (a : List ℕ) (day : ℕ) (s : List ℕ) (trep : ℕ) (othe
 pub record Accepted (f : Form) (a : List ℕ) (day : ℕ) (s : List ℕ) : Type 0 where
   pub unbroken : storeNumber f s ≡ 0
   pub listed : answerNumber a day ≡ 0
-  pub fresh : answers f s ≤ position f (nameOf a day) s
+  pub fresh : answers f s ≤ position f (rounded (nameOf a day)) s
   pub count : answers f s + 1 ≤ f .answersMost
   pub stream : streamLength f s + length a ≤ f .streamMost
   pub room : storeLength f s + entrySize f + length a ≤ length s
@@ -138,6 +147,12 @@ module _ (f : Form) (a : List ℕ) (day : ℕ) (s : List ℕ) (r : ℕ) (e : r �
   pub accepted-length : (b t k : ℕ) → b ≡ streamStart f s → t ≡ streamLength f s → k ≡ entrySize f
       → b + t + k + length a ≡ changedBy (appendNumber f a day s) (storeLength f s + entrySize f + length a) 0
   accepted-length b t k p q l = changed-by r _ _ _ 0 e z (rw (p, q, l))
+
+  -- the store that was written under the day of the rounded name
+  pub accepted-out : (name kept : AnswerName) (out : List ℕ) → name ≡ nameOf a day → kept ≡ rounded name → out ≡ front (withAnswer f a (kept .day) s) s
+      → out ≡ appendOut f a day s
+  unfolding appendOut
+  accepted-out name kept out p q o = changed-by r _ out _ s e z (o ∙ rw (q, p))
 
 -- Fields one behind the other
 

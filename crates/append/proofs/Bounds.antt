@@ -9,12 +9,12 @@ use Rattle.fields.specs.BigEndian.{numberAt}
 use Rattle.octets.specs.Buffer.{front}
 use Rattle.octets.specs.Search.{firstFrom}
 use Rattle.catalog.specs.Table.{listed, knownTo, isActivities}
-use Rattle.catalog.specs.Name.{dayNamed, nameNumber}
+use Rattle.catalog.specs.Name.{rounded, dayNamed, nameNumber}
 use Rattle.catalog.specs.declared.AnswerName.{AnswerName}
 use Rattle.store.specs.Layout.{narrow, headerSize, entrySize, entriesSize, answers, streamLength, storeLength}
 use Rattle.store.specs.Check.{storeFault, headerFits, countsFit, filledTo, placesRight, answersRight, namesDiffer, storeNumber}
 use Rattle.store.specs.Answer.{answerNumber}
-use Rattle.store.specs.Contents.{Stored, backToBack, contents, InBytes, OfForm}
+use Rattle.store.specs.Contents.{Stored, kept, backToBack, contents, InBytes, OfForm}
 use Rattle.store.specs.Claims.{Missing}
 use Rattle.store.proofs.FormLaws.{narrow-sized}
 use Rattle.store.proofs.AnswerLaws.{answer-named}
@@ -33,7 +33,7 @@ unfolding appendNumber answerNumber roomNumber storeNumber storeFault headerFits
 w12-taken = refl
 
 pub w12 : appendOut narrow (0x76 ∷ 0x00 ∷ 0x02 ∷ 0x02 ∷ []) 0 (replicate 16 0) ≡ w12Bytes
-unfolding appendOut withAnswer front headerSize entrySize entriesSize numberAt
+unfolding appendOut withAnswer front headerSize entrySize entriesSize numberAt rounded isActivities
 w12 = rw w12-taken
 
 -- The bound, for an answer of 76, TREP and data under a name that 12 allows
@@ -68,12 +68,12 @@ module _ (name : AnswerName) (d s : List ℕ) (allowed : nameNumber name ≡ 0) 
         taken = taken;
         unbroken = made .unbroken;
         stream = reads .total ∙ ap (λ (x : List Stored). length (backToBack x)) (made .contents)
-            ∙ ap length (more-back (contents narrow s) g)
+            ∙ ap length (more-back (contents narrow s) (kept g))
             ∙ length-append (backToBack (contents narrow s)) a
             ∙ omega (arith, was .total);
       }
 
   -- "one byte more is 8"
-  pub one-more : length d ≡ 59999 → storeNumber narrow s ≡ 0 → Missing narrow name s → appendNumber narrow a (name .day) s ≡ 8
+  pub one-more : length d ≡ 59999 → storeNumber narrow s ≡ 0 → Missing narrow (rounded name) s → appendNumber narrow a (name .day) s ≡ 8
   one-more long z m =
       over-bound narrow a (name .day) s (record { judged = record { unbroken = z; listed = listed-answer }; missing = m }) (inr (omega arith))

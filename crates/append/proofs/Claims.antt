@@ -4,6 +4,7 @@ use Rattle.append.specs.Claims.{NumberClaims, ListClaims, ReadBackClaims
 use Rattle.append.proofs.Theorems.{append-is, append-out, appended, appends}
 use Rattle.append.proofs.Refusals.{append-fault, append-not-five, append-twelve, already-held, already-held-only, over-bound, over-bound-only}
 use Rattle.append.proofs.Refusals.{buffer-short, buffer-short-only, append-taken, append-taken-only}
+use Rattle.append.proofs.Days.{day-claims, day-examples}
 use Rattle.append.proofs.Bounds.{fills, one-more}
 
 numbers : (f : Form) → NumberClaims f
@@ -30,5 +31,7 @@ claims =
       numbers = numbers;
       list = list;
       leaves = leaves;
+      days = day-claims;
+      dayExamples = day-examples;
       narrowForm = record { fills = λ name d s allowed. fills name d s allowed; oneMore = one-more };
     }

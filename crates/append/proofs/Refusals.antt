@@ -13,6 +13,7 @@ use Rattle.octets.proofs.OrderLaws.{Both, unless-is, unless-fails, or-is, or-fi
 use Rattle.store.specs.Layout.{Form, entrySize, answers, streamLength, storeLength}
 use Rattle.store.specs.Check.{storeNumber}
 use Rattle.store.specs.Read.{position, isHeld}
+use Rattle.catalog.specs.Name.{rounded}
 use Rattle.store.specs.Answer.{nameOf, answerNumber}
 use Rattle.store.specs.Faults.{IsFault}
 use Rattle.store.specs.Claims.{Unlisted, HeldAs}
@@ -26,7 +27,7 @@ use Rattle.append.proofs.AppendLaws.{accepted}
 module _ (f : Form) (a : List ℕ) (day : ℕ) (s : List ℕ) where
   -- the search ends at a held answer
   abbrev found : Bool
-  found = isHeld f (nameOf a day) s
+  found = isHeld f (rounded (nameOf a day)) s
 
   -- the store's number and that of the answer are 0 or at least 12
   store-small : (k : ℕ) → eqb 0 k ≡ false → k < 13 → storeNumber f s ≡ k → ⊥
@@ -48,13 +49,13 @@ module _ (f : Form) (a : List ℕ) (day : ℕ) (s : List ℕ) where
   fresh-is k zero small seven e =
       let j = judged-is k zero small e in
       let t = unless-is (not found) 7 _ k seven (j .rest) in
-      let l = ltb-false (position f (nameOf a day) s) (answers f s) (not-true _ (t .first)) in
-      record { first = record { judged = j .first; missing = position-missing f (nameOf a day) s l }; rest = t .rest }
+      let l = ltb-false (position f (rounded (nameOf a day)) s) (answers f s) (not-true _ (t .first)) in
+      record { first = record { judged = j .first; missing = position-missing f (rounded (nameOf a day)) s l }; rest = t .rest }
 
   room-is : Fresh f a day s → (k : ℕ) → roomNumber f (length a) s ≡ k → appendNumber f a day s ≡ k
   unfolding appendNumber
   room-is known k e =
-      let none : found ≡ false = le-ltb _ _ (missing-position f (nameOf a day) s (known .missing)) in
+      let none : found ≡ false = le-ltb _ _ (missing-position f (rounded (nameOf a day)) s (known .missing)) in
       rw (known .judged .unbroken, known .judged .listed, none) e
 
   -- the room gives 8, 4 or 0
@@ -95,15 +96,15 @@ module _ (f : Form) (a : List ℕ) (day : ℕ) (s : List ℕ) where
       )
 
   -- 7 exactly where a held answer has that name
-  pub already-held : Judged f a day s → HeldAs f (nameOf a day) s → appendNumber f a day s ≡ 7
+  pub already-held : Judged f a day s → HeldAs f (rounded (nameOf a day)) s → appendNumber f a day s ≡ 7
   unfolding appendNumber
-  already-held j h = rw (j .unbroken, j .listed, lt-ltb (position f (nameOf a day) s) (answers f s) (held-position f (nameOf a day) s h))
+  already-held j h = rw (j .unbroken, j .listed, lt-ltb (position f (rounded (nameOf a day)) s) (answers f s) (held-position f (rounded (nameOf a day)) s h))
 
-  pub already-held-only : appendNumber f a day s ≡ 7 → Judged f a day s × HeldAs f (nameOf a day) s
+  pub already-held-only : appendNumber f a day s ≡ 7 → Judged f a day s × HeldAs f (rounded (nameOf a day)) s
   already-held-only e =
       let j = judged-is 7 refl (omega arith) e in
       let known = unless-fails (not found) 7 _ (room-not 7 refl refl refl) (j .rest) in
-      (j .first, position-held f (nameOf a day) s (ltb-true _ _ (not-false _ known)))
+      (j .first, position-held f (rounded (nameOf a day)) s (ltb-true _ _ (not-false _ known)))
 
   -- 8 exactly where the store would pass the form's bounds
   pub over-bound : Fresh f a day s → (f .answersMost < answers f s + 1) ⊎ (f .streamMost < streamLength f s + length a) → appendNumber f a day s ≡ 8
@@ -159,5 +160,5 @@ module _ (f : Form) (a : List ℕ) (day : ℕ) (s : List ℕ) where
   append-taken-only e =
       let ok = accepted f a day s e in
       let judged : Judged f a day s = record { unbroken = ok .unbroken; listed = ok .listed } in
-      let fresh : Fresh f a day s = record { judged = judged; missing = position-missing f (nameOf a day) s (ok .fresh) } in
+      let fresh : Fresh f a day s = record { judged = judged; missing = position-missing f (rounded (nameOf a day)) s (ok .fresh) } in
       (record { fresh = fresh; count = ok .count; stream = ok .stream }, ok .room)

@@ -1,20 +1,21 @@
 -- An append as one to the list, and what it leaves.
 use Prim.Native.Nat.{ℕ, suc, _+_, _<_}
-use mathlib.Core.List.{List, [], _∷_, _++_, append-assoc, append-nil}
+use mathlib.Core.List.{List, [], _∷_, _++_, map, append-assoc, append-nil}
 use mathlib.Core.Path.{_≡_, sym, ap, _∙_}
 use native.Mathlib.Omega.{arith}
 use native.Mathlib.Nat.{zero-add}
 use native.Mathlib.Decide.{decLt}
-use lib.ListN.{length, getD, drop, length-append}
+use lib.ListN.{length, getD, drop, length-append, length-map}
 use lib.Seq.{getD-append-add}
 use Rattle.octets.specs.Buffer.{front}
 use Rattle.fields.specs.BigEndian.{bytesOf}
 use Rattle.octets.proofs.PartLaws.{bytes-part, bytes-drop}
+use Rattle.catalog.specs.Name.{rounded}
 use Rattle.catalog.specs.declared.AnswerName.{AnswerName}
 use Rattle.store.specs.Layout.{Form, Sized, entrySize, answers, streamLength, storeLength}
 use Rattle.store.specs.Check.{storeNumber}
 use Rattle.store.specs.Read.{lookupNumber, lookupPart, streamPart}
-use Rattle.store.specs.Contents.{Stored, nameFor, nothing, backToBack, entryBytes, entriesFrom, storeOf, contents}
+use Rattle.store.specs.Contents.{Stored, nameFor, kept, nothing, backToBack, entryBytes, entriesFrom, storeOf, contents}
 use Rattle.store.specs.Contents.{answerNamed, InBytes, Listed, Holdable, OfForm}
 use Rattle.store.proofs.PositionLaws.{position-missing}
 use Rattle.store.proofs.FormLaws.{entries-suc}
@@ -23,9 +24,10 @@ use Rattle.store.proofs.ContentsLaws.{contents-length, contents-at, contents-re
 use Rattle.store.proofs.ListLaws.{is-among, answer-of, more-length, more-back, more-old, more-new, others-among, others-answer}
 use Rattle.store.proofs.OwnBytes.{entries-are}
 use Rattle.store.proofs.Theorems.{written-unbroken, written-contents, written-form, held-is, lookup-is, lookup-bytes, stream-is}
-use Rattle.append.specs.Append.{roomNumber, appendNumber, withAnswer, appendOut, appendNumberTo}
+use Rattle.append.specs.Append.{roomNumber, appendNumber, withAnswer, appendOut, withLast, appendNumberTo}
 use Rattle.append.specs.Claims.{Found, Appended, Appends, none, more, ReadsBack}
 use Rattle.append.proofs.AppendLaws.{Accepted, accepted}
+use Rattle.append.proofs.KeptLaws.{kept-name, kept-listed, back-kept, kept-at}
 
 -- The list with an answer more
 
@@ -70,28 +72,33 @@ module _ (f : Form) (s : List ℕ) (z : storeNumber f s ≡ 0) where
   unfolding appendNumber roomNumber appendNumberTo
   append-is g =
       let reads = contents-reads f s z in
-      let t : length (backToBack (held ++ (g ∷ []))) ≡ streamLength f s + length (g .answer) =
-      ap length (more-back held g) ∙ length-append (backToBack held) (g .answer) ∙ omega (arith, reads .total) in
-      rw (z, held-is f s z (nameFor g), more-length held g, contents-length f s, t, more-long g)
+      let t : length (backToBack (withLast g held)) ≡ streamLength f s + length (g .answer) =
+      ap length (more-back held (kept g)) ∙ length-append (backToBack held) (g .answer) ∙ omega (arith, reads .total) in
+      rw (z, held-is f s z (rounded (nameFor g)), more-length held (kept g), contents-length f s, t, more-long (kept g))
 
--- the i-th answer of an unbroken store is found under its name
+-- an answer that an unbroken store keeps i-th is found under every name that is kept as its own
 pub found-at : (f : Form) (s : List ℕ) → storeNumber f s ≡ 0 → (gs : List Stored) → contents f s ≡ gs → Holdable f gs
-    → (i : ℕ) → i < length gs → Found f (getD gs i nothing) s
-found-at f s z gs e fit i h =
-    let name : AnswerName = nameFor (getD gs i nothing) in
+    → (i : ℕ) → i < length gs → (g : Stored) → getD gs i nothing ≡ kept g → Found f g s
+found-at f s z gs e fit i h g is =
+    let at : nameFor (getD gs i nothing) ≡ rounded (nameFor g) = ap nameFor is ∙ kept-name g in
     record {
-      number = lookup-is f s z name ∙ rw (e, is-among f gs fit i h);
-      part = lookup-bytes f s z name ∙ ap (answerNamed name) e ∙ answer-of f gs fit i h;
+      number = λ name q. lookup-is f s z name ∙ rw (e, q, ← at) (rw (is-among f gs fit i h));
+      part = λ name q.
+          lookup-bytes f s z name
+          ∙ ap (answerNamed (rounded name)) e
+          ∙ ap (λ (n : AnswerName). answerNamed n gs) (q ∙ sym at)
+          ∙ answer-of f gs fit i h
+          ∙ ap (λ (x : Stored). x .answer) is;
     }
 
 -- An accepted append
 
 pub append-out : (f : Form) → Sized f → (g : Stored) (s : List ℕ) → OfForm f s → appendNumber f (g .answer) (g .day) s ≡ 0
-    → appendOut f (g .answer) (g .day) s ≡ front (storeOf f (contents f s ++ (g ∷ []))) s
+    → appendOut f (g .answer) (g .day) s ≡ front (storeOf f (withLast g (contents f s))) s
 unfolding appendOut
 append-out f sized g s formed taken =
     let z = accepted f (g .answer) (g .day) s taken .unbroken in
-    rw (taken, with-answer f sized s z formed g)
+    rw (taken, with-answer f sized s z formed (kept g))
 
 module _ (f : Form) (sized : Sized f) (g : Stored) (s : List ℕ) (formed : OfForm f s) (given : InBytes g)
     (taken : appendNumber f (g .answer) (g .day) s ≡ 0) where
@@ -99,7 +106,7 @@ module _ (f : Form) (sized : Sized f) (g : Stored) (s : List ℕ) (formed : OfFo
   old = contents f s
 
   abbrev new : List Stored
-  new = contents f s ++ (g ∷ [])
+  new = withLast g (contents f s)
 
   abbrev after : List ℕ
   after = appendOut f (g .answer) (g .day) s
@@ -111,29 +118,30 @@ module _ (f : Form) (sized : Sized f) (g : Stored) (s : List ℕ) (formed : OfFo
   old-fit = contents-holdable f s (ok .unbroken) (formed .bytes)
 
   -- the old names are not the new one
-  fresh : (i : ℕ) → i < length old → nameFor (getD old i nothing) ≡ nameFor g → ⊥
+  fresh : (i : ℕ) → i < length old → nameFor (getD old i nothing) ≡ nameFor (kept g) → ⊥
   fresh i h e =
       let l : i < answers f s = omega (arith, contents-length f s) in
-      position-missing f (nameFor g) s (ok .fresh) i l (stored-name f s (ok .unbroken) i l ∙ ap nameFor (sym (contents-at f s i l)) ∙ e)
+      position-missing f (rounded (nameFor g)) s (ok .fresh) i l
+      (stored-name f s (ok .unbroken) i l ∙ ap nameFor (sym (contents-at f s i l)) ∙ e ∙ kept-name g)
 
   new-fit : Holdable f new
   new-fit =
-      let n = more-length old g in
+      let n = more-length old (kept g) in
       let reads = contents-reads f s (ok .unbroken) in
       record {
         listed = λ i h.
             elim (decLt i (length old)) as (λ _. Listed (getD new i nothing)) [
-              | yes l ↦ rw (more-old old g i l) (old-fit .listed i l)
-              | no l ↦ let e : i ≡ length old = omega arith in rw (e, more-new old g) (record { inBytes = given; number = ok .listed })
+              | yes l ↦ rw (more-old old (kept g) i l) (old-fit .listed i l)
+              | no l ↦ let e : i ≡ length old = omega arith in rw (e, more-new old (kept g)) (kept-listed g given (ok .listed))
             ];
         different = λ i j l h e.
             let a : i < length old = omega arith in
             elim (decLt j (length old)) as (λ _. ⊥) [
-              | yes b ↦ old-fit .different i j l b (rw (more-old old g i a, more-old old g j b) at e)
-              | no b ↦ let q : j ≡ length old = omega arith in fresh i a (rw (q, more-new old g, more-old old g i a) at e)
+              | yes b ↦ old-fit .different i j l b (rw (more-old old (kept g) i a, more-old old (kept g) j b) at e)
+              | no b ↦ let q : j ≡ length old = omega arith in fresh i a (rw (q, more-new old (kept g), more-old old (kept g) i a) at e)
             ];
         count = omega (arith, ok .count, contents-length f s);
-        stream = rw (more-back old g) (omega (arith, length-append (backToBack old) (g .answer), reads .total, ok .stream));
+        stream = rw (more-back old (kept g)) (omega (arith, length-append (backToBack old) (g .answer), reads .total, ok .stream));
       }
 
   abbrev rest : List ℕ
@@ -156,26 +164,29 @@ module _ (f : Form) (sized : Sized f) (g : Stored) (s : List ℕ) (formed : OfFo
 
   pub append-found : Found f g after
   append-found =
-      rw (more-new old g) at (found-at f after append-unbroken new append-contents new-fit (length old) (omega (arith, more-length old g)))
+      found-at f after append-unbroken new append-contents new-fit (length old) (omega (arith, more-length old (kept g))) g (more-new old (kept g))
 
-  module _ (name : AnswerName) (other : name ≡ nameFor g → ⊥) where
+  module _ (name : AnswerName) (other : rounded name ≡ rounded (nameFor g) → ⊥) where
+    other-kept : rounded name ≡ nameFor (kept g) → ⊥
+    other-kept e = other (e ∙ kept-name g)
+
     pub others-number : lookupNumber f name after ≡ lookupNumber f name s
     others-number =
         lookup-is f after append-unbroken name
-        ∙ rw (append-contents, others-among old g name other) (sym (lookup-is f s (ok .unbroken) name))
+        ∙ rw (append-contents, others-among old (kept g) (rounded name) other-kept) (sym (lookup-is f s (ok .unbroken) name))
 
     pub others-part : lookupPart f name after ≡ lookupPart f name s
     others-part =
         lookup-bytes f after append-unbroken name
-        ∙ ap (answerNamed name) append-contents
-        ∙ others-answer old g name other
+        ∙ ap (answerNamed (rounded name)) append-contents
+        ∙ others-answer old (kept g) (rounded name) other-kept
         ∙ sym (lookup-bytes f s (ok .unbroken) name)
 
   pub append-stream : streamPart f after ≡ streamPart f s ++ g .answer
   append-stream =
       stream-is f after append-unbroken
       ∙ ap backToBack append-contents
-      ∙ more-back old g
+      ∙ more-back old (kept g)
       ∙ ap (λ (x : List ℕ). x ++ g .answer) (sym (stream-is f s (ok .unbroken)))
 
   pub appended : Appended f g s after
@@ -196,7 +207,7 @@ module _ (f : Form) (sized : Sized f) (g : Stored) (s : List ℕ) (formed : OfFo
 record Left (f : Form) (gs : List Stored) (s r : List ℕ) : Type 0 where
   unbroken : storeNumber f r ≡ 0
   ofForm : OfForm f r
-  contents : contents f r ≡ contents f s ++ gs
+  contents : contents f r ≡ contents f s ++ map kept gs
 
 left : (f : Form) → Sized f → {gs : List Stored} {s r : List ℕ} → OfForm f s → storeNumber f s ≡ 0 → Appends f gs s r → Left f gs s r
 left f sized {gs} {s} formed z none = record { unbroken = z; ofForm = formed; contents = sym (append-nil (contents f s)) }
@@ -206,21 +217,22 @@ left f sized formed z (more {g} {gs} {s} {r} taken given rest) =
     record {
       unbroken = later .unbroken;
       ofForm = later .ofForm;
-      contents = later .contents ∙ rw (first .contents) (append-assoc (contents f s) (g ∷ []) gs);
+      contents = later .contents ∙ rw (first .contents) (append-assoc (contents f s) (kept g ∷ []) (map kept gs));
     }
 
 pub appends : (f : Form) → Sized f → (gs : List Stored) (s r : List ℕ) → OfForm f s → storeNumber f s ≡ 0 → Appends f gs s r → ReadsBack f gs s r
 appends f sized gs s r formed z all =
     let old : List Stored = contents f s in
     let l : Left f gs s r = left f sized formed z all in
-    let fit : Holdable f (old ++ gs) = rw (l .contents) at (contents-holdable f r (l .unbroken) (l .ofForm .bytes)) in
+    let news : List Stored = map kept gs in
+    let fit : Holdable f (old ++ news) = rw (l .contents) at (contents-holdable f r (l .unbroken) (l .ofForm .bytes)) in
     record {
       unbroken = l .unbroken;
       ofForm = l .ofForm;
       contents = l .contents;
       lookups = λ i h.
-          rw (getD-append-add old gs i nothing) at
-          (found-at f r (l .unbroken) (old ++ gs) (l .contents) fit (length old + i) (omega (arith, length-append old gs)));
-      stream = stream-is f r (l .unbroken) ∙ ap backToBack (l .contents) ∙ back-append old gs
-          ∙ ap (λ (x : List ℕ). x ++ backToBack gs) (sym (stream-is f s z));
+          found-at f r (l .unbroken) (old ++ news) (l .contents) fit (length old + i) (omega (arith, length-append old news, length-map gs kept))
+          (getD gs i nothing) (getD-append-add old news i nothing ∙ kept-at gs i);
+      stream = stream-is f r (l .unbroken) ∙ ap backToBack (l .contents) ∙ back-append old news
+          ∙ rw (back-kept gs) (ap (λ (x : List ℕ). x ++ backToBack gs) (sym (stream-is f s z)));
     }

@@ -1,5 +1,5 @@
 -- "Appending puts the answer last", in place: the entries grow by one, so the stream moves up; bytes behind the new
--- store stay.
+-- store stay. "appending rounds it" (document 02, Req 03): the entry gets the first second of the day.
 use Prim.Native.Nat.{ℕ, _+_}
 use mathlib.Core.Bool.{not}
 use mathlib.Core.List.{List, [], _∷_, _++_}
@@ -10,12 +10,13 @@ use Rattle.octets.specs.Numbers.{done, bufferShort, alreadyHeld, overBound, cha
 use Rattle.fields.specs.BigEndian.{bytesOf}
 use Rattle.octets.specs.Buffer.{partAt, front}
 use Rattle.octets.specs.declared.Written.{Written}
+use Rattle.catalog.specs.Name.{rounded}
 use Rattle.store.specs.Layout.{Form, headerSize, entrySize, entriesSize}
 use Rattle.store.specs.Layout.{answers, streamLength, storeLength, streamOf}
 use Rattle.store.specs.Check.{storeNumber}
 use Rattle.store.specs.Read.{isHeld}
 use Rattle.store.specs.Answer.{nameOf, answerNumber}
-use Rattle.store.specs.Contents.{Stored, nameFor, backToBack, storeOf, isAmong}
+use Rattle.store.specs.Contents.{Stored, nameFor, kept, backToBack, storeOf, isAmong}
 
 module _ (f : Form) where
   -- "8: store would pass 64 answers or 60,000 stream bytes", "4: .. store buffer too short"
@@ -26,15 +27,15 @@ module _ (f : Form) where
       (unless (leb (storeLength f s + entrySize f + n) (length s)) bufferShort
       done))
 
-  -- "Appending: 5, 12, 7, 8, 4", with the number of the fault for 5
+  -- "Appending: 5, 12, 7, 8, 4", with the number of the fault for 5; "the "already held" test" compares whole days
   unfoldable pub appendNumber : List ℕ → ℕ → List ℕ → ℕ
   appendNumber answer day s =
       orElse (storeNumber f s)
       (orElse (answerNumber answer day)
-      (unless (not (isHeld f (nameOf answer day) s)) alreadyHeld
+      (unless (not (isHeld f (rounded (nameOf answer day)) s)) alreadyHeld
       (roomNumber (length answer) s)))
 
-  -- the bytes of the store with the answer put last
+  -- the bytes of the store with the answer put last, under this day
   unfoldable pub withAnswer : List ℕ → ℕ → List ℕ → List ℕ
   withAnswer answer day s =
       take (length (f .mark)) s
@@ -51,14 +52,19 @@ module _ (f : Form) where
       writtenBy (appendNumber answer day s) (storeLength f s + entrySize f + length answer)
 
   unfoldable pub appendOut : List ℕ → ℕ → List ℕ → List ℕ
-  appendOut answer day s = changedBy (appendNumber answer day s) (front (withAnswer answer day s) s) s
+  appendOut answer day s =
+      changedBy (appendNumber answer day s) (front (withAnswer answer (rounded (nameOf answer day) .day) s) s) s
+
+-- "Appending puts the answer last", as a store keeps it
+abbrev pub withLast : Stored → List Stored → List Stored
+withLast g gs = gs ++ (kept g ∷ [])
 
 -- "Appending: 5, 12, 7, 8, 4", behind the store's number; bufferLen is the buffer's length
 unfoldable pub appendNumberTo : Form → Stored → ℕ → List Stored → ℕ
 appendNumberTo f g bufferLen gs =
     orElse (answerNumber (g .answer) (g .day))
-    (unless (not (isAmong (nameFor g) gs)) alreadyHeld
-    (unless (leb (length (gs ++ (g ∷ []))) (f .answersMost)) overBound
-    (unless (leb (length (backToBack (gs ++ (g ∷ [])))) (f .streamMost)) overBound
-    (unless (leb (length (storeOf f (gs ++ (g ∷ [])))) bufferLen) bufferShort
+    (unless (not (isAmong (rounded (nameFor g)) gs)) alreadyHeld
+    (unless (leb (length (withLast g gs)) (f .answersMost)) overBound
+    (unless (leb (length (backToBack (withLast g gs))) (f .streamMost)) overBound
+    (unless (leb (length (storeOf f (withLast g gs))) bufferLen) bufferShort
     done))))

@@ -2,22 +2,23 @@
 -- says, the append as one of the list, what it leaves, and what any list of appends leaves. For every form whose bounds
 -- fit its fields; proofs/Claims.antt proves it.
 use Prim.Native.Nat.{ℕ, _+_, _<_, _≤_}
-use mathlib.Core.List.{List, [], _∷_, _++_}
+use mathlib.Core.List.{List, [], _∷_, _++_, map}
 use mathlib.Core.Logic.{_↔_, _⊎_, _≢_}
 use mathlib.Core.Path.{_≡_}
 use lib.ListN.{length, getD}
 use Rattle.octets.specs.Numbers.{done, bufferShort, alreadyHeld, overBound, notInTable}
 use Rattle.octets.specs.Buffer.{front}
-use Rattle.catalog.specs.Name.{nameNumber}
+use Rattle.catalog.specs.Name.{rounded, nameNumber}
 use Rattle.catalog.specs.declared.AnswerName.{AnswerName}
 use Rattle.store.specs.Layout.{Form, Sized, narrow, entrySize, answers, streamLength, storeLength}
 use Rattle.store.specs.Check.{storeNumber}
 use Rattle.store.specs.Read.{lookupNumber, lookupPart, streamPart}
 use Rattle.store.specs.Answer.{nameOf, answerNumber}
-use Rattle.store.specs.Contents.{Stored, nameFor, nothing, backToBack, storeOf, contents, InBytes, OfForm}
+use Rattle.store.specs.Contents.{Stored, nameFor, kept, nothing, backToBack, storeOf, contents, InBytes, OfForm}
 use Rattle.store.specs.Faults.{IsFault}
 use Rattle.store.specs.Claims.{Unlisted, HeldAs, Missing}
-use Rattle.append.specs.Append.{appendNumber, appendOut, appendNumberTo}
+use Rattle.append.specs.Days.{DayClaims, DayExamples}
+use Rattle.append.specs.Append.{appendNumber, appendOut, withLast, appendNumberTo}
 
 -- Numbers
 
@@ -30,7 +31,7 @@ module _ (f : Form) where
   -- nor by 7
   pub record Fresh (answer : List ℕ) (day : ℕ) (s : List ℕ) : Type 0 where
     pub judged : Judged answer day s
-    pub missing : Missing f (nameOf answer day) s
+    pub missing : Missing f (rounded (nameOf answer day)) s
 
   -- nor by 8
   pub record Bounded (answer : List ℕ) (day : ℕ) (s : List ℕ) : Type 0 where
@@ -50,7 +51,8 @@ module _ (f : Form) where
         → (appendNumber f answer day s ≡ notInTable) ↔ ((storeNumber f s ≡ done) × Unlisted answer day)
     -- "7: answer already held"
     pub seven : (answer : List ℕ) (day : ℕ) (s : List ℕ)
-        → (appendNumber f answer day s ≡ alreadyHeld) ↔ (Judged f answer day s × HeldAs f (nameOf answer day) s)
+        → (appendNumber f answer day s ≡ alreadyHeld)
+        ↔ (Judged f answer day s × HeldAs f (rounded (nameOf answer day)) s)
     -- "8: store would pass 64 answers or 60,000 stream bytes": the form's bounds
     pub eight : (answer : List ℕ) (day : ℕ) (s : List ℕ)
         → (appendNumber f answer day s ≡ overBound)
@@ -74,25 +76,27 @@ module _ (f : Form) where
     pub appendRefusal : (g : Stored) (s : List ℕ) → storeNumber f s ≡ done
         → appendNumber f (g .answer) (g .day) s ≡ appendNumberTo f g (length s) (contents f s)
     pub append : (g : Stored) (s : List ℕ) → OfForm f s → appendNumber f (g .answer) (g .day) s ≡ done
-        → appendOut f (g .answer) (g .day) s ≡ front (storeOf f (contents f s ++ (g ∷ []))) s
+        → appendOut f (g .answer) (g .day) s ≡ front (storeOf f (withLast g (contents f s))) s
 
 -- What it leaves
 
 module _ (f : Form) where
-  -- a lookup of its name gives exactly that answer
+  -- a lookup by every name that is kept as its own gives exactly that answer
   pub record Found (g : Stored) (s : List ℕ) : Type 0 where
-    pub number : lookupNumber f (nameFor g) s ≡ done
-    pub part : lookupPart f (nameFor g) s ≡ g .answer
+    pub number : (name : AnswerName) → rounded name ≡ rounded (nameFor g) → lookupNumber f name s ≡ done
+    pub part : (name : AnswerName) → rounded name ≡ rounded (nameFor g) → lookupPart f name s ≡ g .answer
 
   -- what an accepted append of an answer makes of the store s
   pub record Appended (g : Stored) (s after : List ℕ) : Type 0 where
     pub unbroken : storeNumber f after ≡ done
     pub ofForm : OfForm f after
-    pub contents : contents f after ≡ contents f s ++ (g ∷ [])
+    pub contents : contents f after ≡ withLast g (contents f s)
     pub found : Found g after
     -- every other lookup is as before
-    pub othersNumber : (name : AnswerName) → name ≢ nameFor g → lookupNumber f name after ≡ lookupNumber f name s
-    pub othersPart : (name : AnswerName) → name ≢ nameFor g → lookupPart f name after ≡ lookupPart f name s
+    pub othersNumber : (name : AnswerName) → rounded name ≢ rounded (nameFor g)
+        → lookupNumber f name after ≡ lookupNumber f name s
+    pub othersPart : (name : AnswerName) → rounded name ≢ rounded (nameFor g)
+        → lookupPart f name after ≡ lookupPart f name s
     -- the stream grows by exactly the answer
     pub stream : streamPart f after ≡ streamPart f s ++ g .answer
 
@@ -107,7 +111,7 @@ module _ (f : Form) where
   pub record ReadsBack (gs : List Stored) (s r : List ℕ) : Type 0 where
     pub unbroken : storeNumber f r ≡ done
     pub ofForm : OfForm f r
-    pub contents : contents f r ≡ contents f s ++ gs
+    pub contents : contents f r ≡ contents f s ++ map kept gs
     -- each of their names looks up to exactly its answer
     pub lookups : (i : ℕ) → i < length gs → Found (getD gs i nothing) r
     pub stream : streamPart f r ≡ streamPart f s ++ backToBack gs
@@ -135,11 +139,13 @@ pub record NarrowClaims : Type 0 where
       → Fills (0x76 ∷ name .trep ∷ d) (name .day) s
   -- "one byte more is 8": in any store that does not hold that name, whatever room it has
   pub oneMore : (name : AnswerName) (d s : List ℕ) → nameNumber name ≡ done
-      → length d ≡ 59999 → storeNumber narrow s ≡ done → Missing narrow name s
+      → length d ≡ 59999 → storeNumber narrow s ≡ done → Missing narrow (rounded name) s
       → appendNumber narrow (0x76 ∷ name .trep ∷ d) (name .day) s ≡ overBound
 
 pub record AppendClaims : Type 0 where
   pub numbers : (f : Form) → NumberClaims f
   pub list : (f : Form) → Sized f → ListClaims f
   pub leaves : (f : Form) → Sized f → ReadBackClaims f
+  pub days : (f : Form) → Sized f → DayClaims f
+  pub dayExamples : DayExamples
   pub narrowForm : NarrowClaims

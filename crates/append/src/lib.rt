@@ -17,7 +17,18 @@ ghost use lib.ListN.{length};
 ghost use Rattle.fields.specs.BigEndian.{bytesOf};
 ghost use Rattle.octets.specs.Buffer.{front, put};
 ghost use Rattle.store.specs.Layout.{narrow, headerSize, entrySize, answers, streamLength, storeLength};
+ghost use Rattle.store.specs.Answer.{nameOf};
 ghost use Rattle.append.specs.Append.{roomNumber, appendNumber, withAnswer, appendResult, appendOut};
+
+// The name that the answer is given: its TREP stands second.
+fn name_of(answer: &[u8], day: u32) -> AnswerName
+    ensures { λ r. ⌜ r ≡ nameOf (now (answer .entry)) day ⌝ }
+{
+    AnswerName {
+        trep: octets::byte::byte_at(answer, 1),
+        day,
+    }
+}
 
 fn room_number(store: &[u8], answer: &[u8]) -> u8
     ensures { λ r. ⌜ r ≡ roomNumber narrow (length (now (answer .entry))) (now (store .entry)) ⌝ }
@@ -40,11 +51,7 @@ fn room_number(store: &[u8], answer: &[u8]) -> u8
 fn append_number(store: &[u8], answer: &[u8], day: u32) -> u8
     ensures { λ r. ⌜ r ≡ appendNumber narrow (now (answer .entry)) day (now (store .entry)) ⌝ }
 {
-    let name = AnswerName {
-        trep: octets::byte::byte_at(answer, 1),
-        day,
-    };
-    let found = store::read::locate_both(store, name, NO_ANSWER);
+    let found = store::read::locate_both(store, name_of(answer, day), NO_ANSWER);
     let broken = found.number;
     if broken != 0 {
         return broken;
@@ -101,8 +108,8 @@ fn put_last(store: &mut [u8], answer: &[u8], day: u32)
     octets::buffer::copy_in(&mut store[last..], answer);
 }
 
-// Puts the answer, 76 and TREP included, last in the store, under its TREP and this day. `len` is the store's new
-// length.
+// Puts the answer, 76 and TREP included, last in the store, under its TREP and, for activities, the first second of the
+// day that `day` falls in. `len` is the store's new length.
 // Refused by the number of a broken store, 12, 7, 8 and 4, in this order; then the buffer is as it was.
 pub fn append(store: &mut [u8], answer: &[u8], day: u32) -> Written
     ensures { λ r. ⌜ r ≡ appendResult narrow (now (answer .entry)) day (now (store .entry)) ⌝ }
@@ -113,7 +120,8 @@ pub fn append(store: &mut [u8], answer: &[u8], day: u32) -> Written
         return Written { number, len: 0 };
     }
     let old = store::layout::stream_start(store) + store::layout::stream_length(store);
-    put_last(store, answer, day);
+    let kept = catalog::rounded(name_of(answer, day));
+    put_last(store, answer, kept.day);
     Written {
         number: 0,
         len: old + ENTRY + answer.len(),

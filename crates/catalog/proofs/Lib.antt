@@ -1,4 +1,6 @@
--- Laws of the table and of names.
+-- Laws of the table, of days and of names.
 pub mod Entries
 pub mod TableLaws
 pub mod NameLaws
+pub mod DayLaws
+pub mod Claims

@@ -14,12 +14,12 @@ pub same-self : (a : AnswerName) → sameAnswer a a ≡ true
 unfolding sameAnswer
 same-self a = rw (eq-eqb (a .trep) (a .trep) refl, eq-eqb (a .day) (a .day) refl)
 
-named : ℕ → ℕ → AnswerName
+abbrev pub named : ℕ → ℕ → AnswerName
 named trep day = record { trep = trep; day = day }
 
 -- names are the same answer only if they are equal
 pub same-is : (a b : AnswerName) → sameAnswer a b ≡ true → a ≡ b
-unfolding sameAnswer named
+unfolding sameAnswer
 same-is a b h =
     let t : a .trep ≡ b .trep = eqb-true _ _ (and-left (eqb (a .trep) (b .trep)) _ h) in
     let d : a .day ≡ b .day = eqb-true _ _ (and-right (eqb (a .trep) (b .trep)) _ h) in

@@ -1,8 +1,9 @@
 // Transfer types by kind of unit (document 01, Transfer types; DDP_011), and the names of answers.
 use octets::numbers::NOT_IN_TABLE;
+ghost use mathlib.Core.Bool.{_&&_};
 ghost use mathlib.Core.Path.{_≡_};
 ghost use Rattle.catalog.specs.Table.{trtpOf, knownTo, listed, inRow, isActivities};
-ghost use Rattle.catalog.specs.Name.{dayAllowed, dayNamed, firstSecond, sameAnswer, nameNumber};
+ghost use Rattle.catalog.specs.Name.{firstSecond, dayNamed, nameNumber, dayStored, rounded, sameAnswer};
 
 // The kinds of unit.
 pub const GENERATION_1: u8 = 0;
@@ -49,7 +50,7 @@ const TRTP: [u8; 18] = [
     0x35,
 ];
 
-// An answer's name: which data, and for activities which day.
+// An answer's name: which data, and for activities any second of the day.
 pub struct AnswerName {
     pub trep: u8,
     pub day: u32,
@@ -125,35 +126,11 @@ pub fn first_second(second: u32) -> u32
     second - second % 86400
 }
 
-// Whether this day may stand in a name, of activities or of another answer.
-pub fn day_allowed(activities: bool, day: u32) -> bool
-    ensures { λ r. ⌜ r ≡ dayAllowed activities day ⌝ }
-{
-    if activities {
-        first_second(day) == day
-    } else {
-        day == 0
-    }
-}
-
-// Whether this day may be named beside the TREP. Two calls: the compiler makes a shorter store check of them
-// (docs/PERFORMANCE.md).
-pub fn day_named(name: AnswerName) -> bool
+// Whether this second may be named beside the TREP: any for activities, else zero alone.
+fn day_named(name: AnswerName) -> bool
     ensures { λ r. ⌜ r ≡ dayNamed name ⌝ }
 {
-    let day = name.day;
-    if is_activities(name.trep) {
-        day_allowed(true, day)
-    } else {
-        day_allowed(false, day)
-    }
-}
-
-// Whether two names mean the same answer.
-pub fn same_answer(a: AnswerName, b: AnswerName) -> bool
-    ensures { λ r. ⌜ r ≡ sameAnswer a b ⌝ }
-{
-    (a.trep == b.trep) & (a.day == b.day)
+    is_activities(name.trep) | (name.day == 0)
 }
 
 // Number 12's rule for a name: 0 where it is allowed.
@@ -167,4 +144,48 @@ pub fn name_number(name: AnswerName) -> u8
         return NOT_IN_TABLE;
     }
     0
+}
+
+// Whether this day may stand in a store's entry: a multiple of 86,400 for activities, else zero. By its first second,
+// since the compiler makes a shorter store check of that than of the remainder (docs/PERFORMANCE.md).
+fn day_stored(name: AnswerName) -> bool
+    ensures { λ r. ⌜ r ≡ dayStored name ⌝ }
+{
+    let day = name.day;
+    if is_activities(name.trep) {
+        first_second(day) == day
+    } else {
+        day == 0
+    }
+}
+
+// Whether an entry may have this name: its TREP is listed, and its day may stand there.
+pub fn name_stored(name: AnswerName) -> bool
+    ensures { λ r. ⌜ r ≡ (listed (name .trep) && dayStored name) ⌝ }
+{
+    if !is_listed(name.trep) {
+        return false;
+    }
+    day_stored(name)
+}
+
+// The name under which a store keeps the answer: activities under the first second of the day.
+pub fn rounded(name: AnswerName) -> AnswerName
+    ensures { λ r. ⌜ r ≡ rounded name ⌝ }
+{
+    let trep = name.trep;
+    if is_activities(trep) {
+        return AnswerName {
+            trep,
+            day: first_second(name.day),
+        };
+    }
+    name
+}
+
+// Whether two names of a store mean the same answer.
+pub fn same_answer(a: AnswerName, b: AnswerName) -> bool
+    ensures { λ r. ⌜ r ≡ sameAnswer a b ⌝ }
+{
+    (a.trep == b.trep) & (a.day == b.day)
 }

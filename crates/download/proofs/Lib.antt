@@ -8,5 +8,6 @@ pub mod Calls
 pub mod Runs
 pub mod Witness
 pub mod TradeCases
+pub mod DayCases
 pub mod Consequences
 pub mod Needed

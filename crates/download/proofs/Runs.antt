@@ -3,7 +3,7 @@ use Rattle.fields.specs.BigEndian.{numberAt}
 use Rattle.octets.specs.Buffer.{front, put}
 use Rattle.frame.specs.Frame.{closed, frameOf, countRight, startRight, addressed, checksumRight, judged, dataPlace, dataOf}
 use Rattle.catalog.specs.Table.{knownTo, listed, isActivities}
-use Rattle.catalog.specs.Name.{firstSecond, dayNamed, sameAnswer, nameNumber}
+use Rattle.catalog.specs.Name.{firstSecond, dayNamed, nameNumber, dayStored, rounded, sameAnswer}
 use Rattle.split.specs.Split.{countOf, carries, subField, subFrame}
 use Rattle.split.specs.Join.{isAnswer, receivedAs, carriedBy}
 use Rattle.octets.specs.Search.{firstFrom}
@@ -29,7 +29,8 @@ use Rattle.tool.specs.Call.{requestNumber, beginNumber, beginState, beginSent, 
 -- a lookup in a store
 unfoldable pub lookups : Unit {0}
 unfolding numberAt firstFrom headerSize entrySize entriesSize nameAt headerFits countsFit filledTo placeRight placesRight answerRight answersRight
-    repeats namesDiffer storeFault storeNumber lookupNumber lookupPlace lookupPart knownTo listed isActivities firstSecond dayNamed sameAnswer nameNumber
+    repeats namesDiffer storeFault storeNumber lookupNumber lookupPlace lookupPart knownTo listed isActivities firstSecond dayNamed nameNumber
+    dayStored rounded sameAnswer
 lookups = tt
 
 -- calls of both ends

@@ -29,7 +29,7 @@ use Rattle.store.proofs.ReadLaws.{number-of-place}
 use Rattle.services.specs.declared.Phase.{Phase}
 use Rattle.services.specs.declared.Phase.the-variants.{Closed, Started, Session, Granted, Sending}
 use Rattle.services.specs.declared.UnitState.{UnitState}
-use Rattle.services.specs.declared.Reaction.the-variants.{AnswerSent, Negative}
+use Rattle.services.specs.declared.Reaction.the-variants.{Ignored, AnswerSent, Negative}
 use Rattle.services.specs.State.{isClosed, isGranted, sendable, phasePossible, possibleAt}
 use Rattle.unit.specs.State.{placeSent, possible}
 use Rattle.services.specs.Services.{requestName, answerFrom, onTransfer, onCode, onSending, onAcknowledge}
@@ -116,8 +116,8 @@ transfer-asked kind phase place name k d f = go (isActivities (name .trep)) refl
   where
     go : (b : Bool) → isActivities (name .trep) ≡ b
         → onTransfer kind phase place (transferRequest name) ≡ unless (isGranted phase) (Negative 0x36 0x22) (answerFrom name (sub 1) place)
-    go true e = rw (name-back name d f, e, k, d)
-    go false e = rw (name-back name d f, e, k, d)
+    go true e = rw (name-back name d f, e, k)
+    go false e = rw (name-back name d f, e, k)
 
 -- "83 76 and a code", the one that acknowledges number n: its code is n + 1
 module _ (place : Place) (name : AnswerName) (n : ℕ) (h : suc n < 65536) where
@@ -163,3 +163,7 @@ module _ (a : Addresses) (store : List ℕ) (u : UnitState) where
       → reactionTo a store u (frameOf a ends.Unit d) ≡ onData (placeSent store (u .phase)) (placeAsked store d) u d
   unfolding reactionTo reactionAt
   heard d s m o = rw (general d, o, data-reads-back a ends.Unit d s m)
+
+  pub unheard : (d : List ℕ) → isClosed (u .phase) ≡ true → reactionTo a store u (frameOf a ends.Unit d) ≡ Ignored
+  unfolding reactionTo reactionAt
+  unheard d o = rw (general d, o)

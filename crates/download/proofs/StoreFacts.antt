@@ -5,6 +5,7 @@ use mathlib.Core.Path.{_≡_, refl, sym, ap, _∙_}
 use lib.ListN.{length, drop}
 use Rattle.octets.specs.Buffer.{partAt}
 use Rattle.octets.specs.declared.Place.{Place}
+use Rattle.catalog.specs.Name.{rounded}
 use Rattle.catalog.specs.declared.AnswerName.{AnswerName}
 use Rattle.store.specs.Layout.{narrow}
 use Rattle.store.specs.Read.{position, lookupNumber, lookupPlace, lookupPart}
@@ -25,7 +26,7 @@ held-place s name z =
     let f = found narrow name s z in
     record {
       number = ap (λ (p : Place). p .number) (f .place);
-      len = ap (λ (p : Place). p .len) (f .place) ∙ sym (ap length (f .part) ∙ answer-length narrow s (f .whole) (position narrow name s) (f .below));
+      len = ap (λ (p : Place). p .len) (f .place) ∙ sym (ap length (f .part) ∙ answer-length narrow s (f .whole) (position narrow (rounded name) s) (f .below));
       part = refl;
       shape = f .begins;
       most = f .most;

@@ -30,7 +30,8 @@ use Rattle.services.specs.State.{isClosed, isGranted}
 use Rattle.unit.specs.State.{possible}
 use Rattle.services.specs.Services.{onSession, onUpload, answerFrom}
 use Rattle.services.specs.Services.{onData}
-use Rattle.unit.specs.Call.{reactionTo, replyData, replyTo, unitReply}
+use Rattle.services.specs.After.{stateAfter}
+use Rattle.unit.specs.Call.{reactionTo, replyData, replyTo, unitState, unitReply}
 use Rattle.progress.specs.declared.Request.the-variants as requests
 use Rattle.requests.specs.Sent.{transferRequest, acknowledgement, transferData, frameSent}
 use Rattle.download.specs.TradeCases.{Called, Asked, lens, TradeCases}
@@ -41,10 +42,15 @@ use Rattle.download.proofs.ServiceFacts.{ranges, sending-held, granted-
 
 -- what a unit replies where nothing is refused
 module _ (store : List ℕ) (u : UnitState) (room : ℕ) (c : Called store u room) where
-  reply : (b : List ℕ) (r : Reaction) → judged lab ends.Unit b ≡ 0 → reactionTo lab store u b ≡ r
+  pub reply : (b : List ℕ) (r : Reaction) → judged lab ends.Unit b ≡ 0 → reactionTo lab store u b ≡ r
       → unitReply lab store room u b ≡ replyTo lab (replyData store r)
   unfolding unitReply
   reply b r j e = rw (not-refused lab store u room b (c .unbroken) (c .possible) (le-leb 260 room (c .roomy)) j, e)
+
+  -- and its next state
+  pub next : (b : List ℕ) (r : Reaction) → judged lab ends.Unit b ≡ 0 → reactionTo lab store u b ≡ r → unitState lab store room u b ≡ stateAfter u r
+  unfolding unitState
+  next b r j e = rw (not-refused lab store u room b (c .unbroken) (c .possible) (le-leb 260 room (c .roomy)) j, e)
 
   w1 : u .phase ≡ Started
       → unitReply lab store room u (0x80 ∷ 0xEE ∷ 0xF0 ∷ 0x02 ∷ 0x10 ∷ 0x81 ∷ 0xF1 ∷ []) ≡ 0x80 ∷ 0xF0 ∷ 0xEE ∷ 0x02 ∷ 0x50 ∷ 0x81 ∷ 0x31 ∷ []
@@ -114,17 +120,23 @@ module _ (trep : ℕ) (d : List ℕ) where
 -- W4 to W6: refusals by wire code
 
 module _ (store : List ℕ) (u : UnitState) (room : ℕ) (c : Called store u room) where
-  -- a transfer request, and what is left to check: phase and data held
+  -- a transfer request, and what is left to check: phase and data held; and its reply
+  pub transfer-reaction : (name : AnswerName) → Asked u name → isClosed (u .phase) ≡ false
+      → reactionTo lab store u (frameOf lab ends.Unit (transferRequest name))
+      ≡ unless (isGranted (u .phase)) (Negative 0x36 0x22) (answerFrom name (sub 1) (lookupPlace narrow name store))
+  unfolding transferData
+  transfer-reaction name q o =
+      heard lab store u (transferRequest name) (asked-some name 1) (asked-most name 1) o
+      ∙ request-first _ _ u name
+      ∙ transfer-asked (u .kind) (u .phase) _ name (q .known) (q .named) (q .fourBytes)
+      ∙ rw (asked-first name (q .named) (q .fourBytes))
+
   transfer-reply : (name : AnswerName) (r : Reaction) → Asked u name → isClosed (u .phase) ≡ false
       → unless (isGranted (u .phase)) (Negative 0x36 0x22) (answerFrom name (sub 1) (lookupPlace narrow name store)) ≡ r
       → unitReply lab store room u (frameOf lab ends.Unit (transferRequest name)) ≡ replyTo lab (replyData store r)
   unfolding transferData frameSent
   transfer-reply name r q o e =
-      reply store u room c (frameOf lab ends.Unit (transferRequest name)) r (asked-good lab name 1)
-      (heard lab store u (transferRequest name) (asked-some name 1) (asked-most name 1) o
-      ∙ request-first _ _ u name
-      ∙ transfer-asked (u .kind) (u .phase) _ name (q .known) (q .named) (q .fourBytes)
-      ∙ rw (asked-first name (q .named) (q .fourBytes)) e)
+      reply store u room c (frameOf lab ends.Unit (transferRequest name)) r (asked-good lab name 1) (transfer-reaction name q o ∙ e)
 
   w4 : (name : AnswerName) → Asked u name → isGranted (u .phase) ≡ true → lookupNumber narrow name store ≡ 6
       → unitReply lab store room u (frameOf lab ends.Unit (transferRequest name)) ≡ 0x80 ∷ 0xF0 ∷ 0xEE ∷ 0x03 ∷ 0x7F ∷ 0x36 ∷ 0xFA ∷ 0x10 ∷ []

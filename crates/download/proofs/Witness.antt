@@ -1,4 +1,5 @@
--- The premises can be met, and the definitions run: a store with an answer of 502 data bytes, three frames, and one of two, a single frame.
+-- The premises can be met, and the definitions run: a store with an answer of 502 data bytes, three frames, and one of two, a single frame; activities by a
+-- second in the middle of their day.
 use Prim.Native.Nat.{ℕ}
 use mathlib.Core.Bool.{true}
 use mathlib.Core.List.{List, [], _∷_, _++_}
@@ -13,6 +14,7 @@ use Rattle.split.specs.Codes.{sub}
 use Rattle.split.specs.Split.{countOf}
 use Rattle.store.specs.Layout.{narrow}
 use Rattle.store.specs.Read.{lookupPart}
+use Rattle.append.specs.Days.{dayStore}
 use Rattle.services.specs.declared.UnitState.{UnitState}
 use Rattle.services.specs.declared.Phase.{Phase}
 use Rattle.services.specs.declared.Phase.the-variants.{Granted, Sending}
@@ -299,3 +301,59 @@ one-run = refl
 
 one-agrees : AgreesClean lab oneFrame (run (cableEnds lab) (transfer lab oneFrame) exchange (start (cableEnds lab) (transfer lab oneFrame)))
 one-agrees = demand3 lab oneFrame exchange .clean ((record { this = holds-interface; sending = sending-overview }, refl), (omega arith, tt))
+
+-- activities that are kept under the first second of their day, asked for by its middle
+abbrev noon : AnswerName
+noon = record { trep = 0x02; day = 129600 }
+
+holds-noon : Holds dayStore noon (0x76 ∷ 0x02 ∷ 0xAA ∷ [])
+unfolding lookups
+holds-noon = record { held = refl; bytes = refl }
+
+known-noon : knownTo 0 0x02 ≡ true
+unfolding lookups
+known-noon = refl
+
+named-noon : nameNumber noon ≡ 0
+unfolding lookups
+named-noon = refl
+
+abbrev older : UnitState
+older = record { kind = 0; rate = 1; pending = 0; phase = Granted }
+
+possible-older : possible dayStore older ≡ true
+unfolding possible possibleAt phasePossible
+possible-older = refl
+
+abbrev byNoon : Premises
+byNoon =
+    record {
+      name = noon;
+      answer = 0x76 ∷ 0x02 ∷ 0xAA ∷ [];
+      unit = older;
+      store = dayStore;
+      tool = freshTool;
+      room = replicate 3 0x00;
+      output = 260;
+      accepted = accepted noon named-noon;
+      fourBytes = omega arith;
+      possible = possible-older;
+      granted = refl;
+      known = known-noon;
+      holds = holds-noon;
+      suffices = omega arith;
+    }
+
+abbrev dayExchange : List (Event (cableEnds lab))
+dayExchange = arrivesAtUnit (record { store = dayStore; reply = 260 }) ∷ arrivesAtTool 260 ∷ []
+
+noon-run : run (cableEnds lab) (transfer lab byNoon) dayExchange (start (cableEnds lab) (transfer lab byNoon)) .system .tool
+    ≡ record {
+      state = record { request = Transfer; outcome = Done; name = noon; sendings = 1; expected = sub 1; held = 3 };
+      room = 0x76 ∷ 0x02 ∷ 0xAA ∷ [];
+    }
+unfolding calls
+noon-run = refl
+
+noon-agrees : AgreesClean lab byNoon (run (cableEnds lab) (transfer lab byNoon) dayExchange (start (cableEnds lab) (transfer lab byNoon)))
+noon-agrees = demand3 lab byNoon dayExchange .clean ((record { this = holds-noon; sending = tt }, refl), (omega arith, tt))

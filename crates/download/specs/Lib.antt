@@ -1,3 +1,4 @@
 pub mod CableEnds
 pub mod Demand
 pub mod TradeCases
+pub mod DayCases

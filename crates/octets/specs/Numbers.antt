@@ -47,7 +47,7 @@ noSuch = 10
 abbrev pub outOfTurn : ℕ
 outOfTurn = 11
 
--- 12: answer or request not in the table, or its day not allowed
+-- 12: answer or request not in the table, or a day other than zero outside activities
 abbrev pub notInTable : ℕ
 notInTable = 12
 

@@ -30,7 +30,7 @@ fn write_data(data: &[u8], out: &mut [u8]) -> Written
     frame::write::write(data, End::Unit, out)
 }
 
-// 36, the TRTP and, for activities, the day.
+// 36, the TRTP and, for activities, the second of the day as it was given.
 fn write_transfer_request(name: AnswerName, out: &mut [u8]) -> Written
     ensures { λ r. ⌜ r ≡ sendResult (frameOf lab ends.Unit (transferRequest name)) (length (now (out .entry))) ⌝ }
     ensures { λ _. ⌜ now (out .exit) ≡ sendOut (frameOf lab ends.Unit (transferRequest name)) (now (out .entry)) ⌝ }

@@ -3,3 +3,4 @@ pub mod StateLaws
 pub mod ServiceLaws
 pub mod AfterLaws
 pub mod ReactionLaws
+pub mod Days

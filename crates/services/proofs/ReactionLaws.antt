@@ -12,7 +12,6 @@ use Rattle.octets.specs.Buffer.{sameBytes}
 use Rattle.octets.specs.declared.Place.{Place}
 use Rattle.frame.specs.Messages.{uploadRequest}
 use Rattle.catalog.specs.Table.{knownTo, isActivities}
-use Rattle.catalog.specs.Name.{dayNamed}
 use Rattle.catalog.specs.declared.AnswerName.{AnswerName}
 use Rattle.split.specs.Split.{countOf}
 use Rattle.split.specs.Codes.{sub, code, sameCode, nextOf, acknowledgeOf, repeatOf, stopCode}
@@ -101,8 +100,7 @@ module _ (P : Reaction → Type 0) (plain : (x : Reaction) → sendsAnswer x ≡
       either P (leb 2 (length d))
       (either P (knownTo kind (getD d 1 0))
       (either P (eqb (length d) (requestLength (isActivities (getD d 1 0))))
-      (either P (dayNamed (requestName d))
-      (either P (isGranted phase) first (negative 0x36 0x22)) (negative 0x36 0x31)) (negative 0x36 0x13)) (negative 0x36 0x12)) (negative 0x36 0x13)
+      (either P (isGranted phase) first (negative 0x36 0x22)) (negative 0x36 0x13)) (negative 0x36 0x12)) (negative 0x36 0x13)
 
   from-acknowledge : (phase : Phase) (sent : Place) (d : List ℕ) → ((c : AckCode) → P (onSending phase sent c)) → P (onAcknowledge phase sent d)
   unfolding onAcknowledge

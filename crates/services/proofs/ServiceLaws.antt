@@ -6,14 +6,14 @@ use mathlib.Core.Path.{_≡_, refl, sym, ap, _∙_}
 use native.Mathlib.Omega.{arith}
 use lib.Dec.{eqb}
 use lib.ListN.{length, getD}
-use borrow.Author.Tests.{le-leb, lt-leb, eq-eqb, ne-eqb, not-true, not-false}
+use borrow.Author.Tests.{le-leb, lt-leb, eq-eqb, ne-eqb}
 use Rattle.octets.specs.Buffer.{sameBytes}
 use Rattle.fields.specs.BigEndian.{numberOf, numberAt}
 use Rattle.octets.specs.declared.Place.{Place}
 use Rattle.octets.proofs.Tests.{flag-nt, flag-nf}
 use Rattle.fields.proofs.NumberLaws.{read-two}
 use Rattle.catalog.specs.Table.{knownTo, isActivities}
-use Rattle.catalog.specs.Name.{noAnswer, dayAllowed, dayNamed}
+use Rattle.catalog.specs.Name.{noAnswer}
 use Rattle.catalog.specs.declared.AnswerName.{AnswerName}
 use Rattle.split.specs.Split.{countOf}
 use Rattle.split.specs.Codes.{sub, code, nextOf, acknowledgeOf, repeatOf, stopCode}
@@ -75,25 +75,16 @@ module _ (kind : ℕ) (phase : Phase) (place : Place) (d : List ℕ) where
       unfolding onTransfer
       transfer-long h = rw (le-leb 2 (length d) two, flag-nt known yes, length-is, ne-eqb (length d) n h)
 
-      module _ (exact : length d ≡ n) (name : AnswerName) (named : name ≡ requestName d) (m : Bool) (day : m ≡ dayAllowed a (name .day)) where
-        day-is : dayNamed (requestName d) ≡ m
-        unfolding dayNamed requestName
-        day-is = sym (day ∙ rw (named, asked))
-
-        pub transfer-day : not m ≡ true → Negative 0x36 0x31 ≡ onTransfer kind phase place d
+      module _ (exact : length d ≡ n) (g : Bool) (granted : g ≡ isGranted phase) where
+        pub transfer-turn : not g ≡ true → Negative 0x36 0x22 ≡ onTransfer kind phase place d
         unfolding onTransfer
-        transfer-day h = rw (le-leb 2 (length d) two, flag-nt known yes, length-is, eq-eqb (length d) n exact, day-is, not-true m h)
+        transfer-turn h = rw (le-leb 2 (length d) two, flag-nt known yes, length-is, eq-eqb (length d) n exact, flag-nf granted h)
 
-        module _ (may : not m ≡ false) (g : Bool) (granted : g ≡ isGranted phase) where
-          pub transfer-turn : not g ≡ true → Negative 0x36 0x22 ≡ onTransfer kind phase place d
-          unfolding onTransfer
-          transfer-turn h =
-              rw (le-leb 2 (length d) two, flag-nt known yes, length-is, eq-eqb (length d) n exact, day-is, not-false m may, flag-nf granted h)
-
-          pub transfer-answer : (r : Reaction) → not g ≡ false → r ≡ answerFrom name (sub 1) place → r ≡ onTransfer kind phase place d
-          unfolding onTransfer
-          transfer-answer r h q =
-              rw (le-leb 2 (length d) two, flag-nt known yes, length-is, eq-eqb (length d) n exact, day-is, not-false m may, flag-nt granted h, ← named) q
+        pub transfer-answer : (r : Reaction) (name : AnswerName) → not g ≡ false → name ≡ requestName d → r ≡ answerFrom name (sub 1) place
+            → r ≡ onTransfer kind phase place d
+        unfolding onTransfer
+        transfer-answer r name h named q =
+            rw (le-leb 2 (length d) two, flag-nt known yes, length-is, eq-eqb (length d) n exact, flag-nt granted h, ← named) q
 
 -- the answer that a frame's data asks for; t is its first byte
 module _ (d : List ℕ) (t : ℕ) (read : t ≡ getD d 0 0) where

@@ -12,7 +12,7 @@ use Rattle.fields.specs.BigEndian.{numberAt}
 use Rattle.octets.specs.declared.Place.{Place}
 use Rattle.frame.specs.Messages.{uploadRequest}
 use Rattle.catalog.specs.Table.{knownTo, isActivities}
-use Rattle.catalog.specs.Name.{noAnswer, dayNamed}
+use Rattle.catalog.specs.Name.{noAnswer}
 use Rattle.catalog.specs.declared.AnswerName.{AnswerName}
 use Rattle.split.specs.Split.{countOf}
 use Rattle.split.specs.Codes.{sub, code, sameCode, nextOf, acknowledgeOf, repeatOf, stopCode}
@@ -83,15 +83,14 @@ nameAsked d = cond (eqb (getD d 0 0) 0x36) (requestName d) noAnswer
 unfoldable pub answerFrom : AnswerName → SubMessage → Place → Reaction
 answerFrom name k place = unless (eqb (place .number) 0) (Negative 0x36 0xFA) (AnswerSent name k place)
 
--- "In 36 a day that is no multiple of 86,400 is 31"; asked is where the answer lies
+-- "The unit no longer answers 31 for a day" (document 02, Req 03); asked is where the answer lies
 unfoldable pub onTransfer : ℕ → Phase → Place → List ℕ → Reaction
 onTransfer kind phase asked d =
     unless (leb 2 (length d)) (Negative 0x36 0x13)
     (unless (knownTo kind (getD d 1 0)) (Negative 0x36 0x12)
     (unless (eqb (length d) (requestLength (isActivities (getD d 1 0)))) (Negative 0x36 0x13)
-    (unless (dayNamed (requestName d)) (Negative 0x36 0x31)
     (unless (isGranted phase) (Negative 0x36 0x22)
-    (answerFrom (requestName d) (sub 1) asked)))))
+    (answerFrom (requestName d) (sub 1) asked))))
 
 -- "37 | granted, sending | 77, session"
 unfoldable pub onExit : Phase → List ℕ → Reaction

@@ -66,18 +66,13 @@ pub(crate) fn on_transfer(kind: u8, phase: Phase, asked: Place, data: &[u8]) -> 
     if !catalog::known_to(kind, trtp) {
         return Reaction::Negative(TRANSFER_DATA, SUB_FUNCTION_UNKNOWN);
     }
-    let activities = catalog::is_activities(trtp);
-    if data.len() != request_length(activities) {
+    if data.len() != request_length(catalog::is_activities(trtp)) {
         return Reaction::Negative(TRANSFER_DATA, LENGTH_WRONG);
-    }
-    let name = request_name(data);
-    if !catalog::day_allowed(activities, name.day) {
-        return Reaction::Negative(TRANSFER_DATA, OUT_OF_RANGE);
     }
     if !crate::state::is_granted(phase) {
         return Reaction::Negative(TRANSFER_DATA, CONDITIONS_WRONG);
     }
-    answer_from(name, SubMessage(1), asked)
+    answer_from(request_name(data), SubMessage(1), asked)
 }
 
 // The sub message behind the last one, or 12 if there is none.

@@ -7,7 +7,8 @@ use catalog::AnswerName;
 use ends::Session;
 use progress::Request;
 
-// The requests of a download, in order; the fourth to the sixth are transfers.
+// The requests of a download, in order; the fourth to the sixth are transfers, the last of them activities by noon of
+// their day.
 fn request_at(k: usize) -> Request {
     match k {
         0 => Request::Start,
@@ -24,7 +25,7 @@ fn name_at(k: usize) -> AnswerName {
         4 => AnswerName { trep: 0x31, day: 0 },
         5 => AnswerName {
             trep: 0x32,
-            day: 86400,
+            day: 129600,
         },
         _ => AnswerName { trep: 0, day: 0 },
     }
@@ -48,6 +49,10 @@ fn compared(session: Session, k: usize, store: &[u8], room: &[u8]) {
 // Request k of a download.
 fn step(session: Session, k: usize, store: &[u8], room: &mut [u8]) -> Session {
     print::number(b"request ", k);
+    let day = name_at(k).day;
+    if day != 0 {
+        print::number(b" by second ", day as usize);
+    }
     let after = ends::run(session, request_at(k), name_at(k), store, room);
     compared(after, k, store, room);
     after

@@ -1,12 +1,12 @@
 -- The five checks and the fault, from the tests of the code.
 use Prim.Native.Nat.{ℕ, _+_, _*_, _-_, _<_, _≤_}
-use mathlib.Core.Bool.{Bool, true, false, not}
+use mathlib.Core.Bool.{Bool, true, false, not, _&&_}
 use mathlib.Core.List.{List, [], _∷_}
 use mathlib.Core.Path.{_≡_, refl, sym, _∙_}
 use native.Mathlib.Omega.{arith}
 use native.Mathlib.Decide.{decLt}
 use native.Mathlib.Numerals.{add-one}
-use lib.Dec.{eqb, leb}
+use lib.Dec.{leb}
 use lib.ListN.{length, getD}
 use borrow.Author.Tests.{lt-ltb, le-ltb, le-leb, lt-leb, eq-eqb, ne-eqb}
 use Rattle.fields.specs.BigEndian.{numberOf}
@@ -14,7 +14,8 @@ use Rattle.octets.specs.Order.{unless}
 use Rattle.octets.specs.Search.{firstFrom, firstOf}
 use Rattle.octets.proofs.SearchLaws.{search-hit, search-end, none-hit, none-end}
 use Rattle.fields.proofs.NumberLaws.{read-two, read-four}
-use Rattle.catalog.specs.Name.{sameAnswer, nameNumber}
+use Rattle.catalog.specs.Table.{listed}
+use Rattle.catalog.specs.Name.{dayStored, sameAnswer}
 use Rattle.catalog.specs.declared.AnswerName.{AnswerName}
 use Rattle.catalog.proofs.NameLaws.{other-day}
 use Rattle.store.specs.declared.Fault.{Fault}
@@ -170,16 +171,16 @@ module _ (f : Form) (s : List ℕ) where
       unfolding placesRight
       entries-fill d = rw (← p, ← none-end (misplaced f s) n i whole h, ← q, ← all, ← filled, eq-eqb end t d)
 
--- One answer; b is its first byte, r the number of its name
+-- One answer; b is its first byte, r whether an entry may have its name
 
 module _ (f : Form) (s : List ℕ) (i start b : ℕ) (is-start : start ≡ answerStart f i s) (first : b ≡ getD s start 0) where
   pub answer-other : (b ≡ 0x76 → ⊥) → false ≡ answerRight f i s
   unfolding answerRight
   answer-other h = rw (← is-start, ← first, ne-eqb b 0x76 h)
 
-  pub answer-is : (name : AnswerName) (r : ℕ) → b ≡ 0x76 → name ≡ nameAt f i s → r ≡ nameNumber name → eqb r 0 ≡ answerRight f i s
+  pub answer-is : (name : AnswerName) (r : Bool) → b ≡ 0x76 → name ≡ nameAt f i s → r ≡ (listed (name .trep) && dayStored name) → r ≡ answerRight f i s
   unfolding answerRight
-  answer-is name r h e q = rw (← is-start, ← first, eq-eqb b 0x76 h, ← e, q)
+  answer-is name r h e q = rw (← is-start, ← first, eq-eqb b 0x76 h, ← e) q
 
 -- a test of the answer, as the loop makes it
 pub right-by : (r : Bool) (t : Bool) → r ≡ t → r ≡ true → not t ≡ false

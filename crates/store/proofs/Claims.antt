@@ -8,6 +8,7 @@ use Rattle.store.proofs.Theorems.{written-unbroken, written-contents, l
 use Rattle.store.proofs.Refusals.{broken-number, number-broken, lookup-fault, held-fault, stream-number, count-number, lookup-not-five}
 use Rattle.store.proofs.Refusals.{held-not-five, lookup-six, answer-either, unlisted-number, number-unlisted}
 use Rattle.store.proofs.Faults.{fault-claims}
+use Rattle.store.proofs.Days.{day-claims}
 use Rattle.store.proofs.NarrowLaws.{empty-is, empty-unbroken, empty-contents, w12-is, fault-examples}
 
 numbers : (f : Form) → NumberClaims f
@@ -52,5 +53,6 @@ claims =
       twelve = λ a day. (number-unlisted a day, unlisted-number a day);
       twelveOnly = answer-either;
       list = list;
+      days = day-claims;
       narrowForm = narrow-form;
     }

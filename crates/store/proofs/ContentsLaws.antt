@@ -17,6 +17,8 @@ use Rattle.octets.proofs.PartLaws.{part-in, byte-in, bytes-part}
 use Rattle.octets.proofs.SearchLaws.{none-built}
 use Rattle.octets.proofs.ValueLaws.{same-values, length-values, value-at, values-of}
 use Rattle.catalog.specs.declared.AnswerName.{AnswerName}
+use Rattle.catalog.proofs.NameLaws.{allowed}
+use Rattle.catalog.proofs.DayLaws.{stored-allowed}
 use Rattle.store.specs.Layout.{Form, answers, streamLength, streamStart, streamOf, entryStart, entryOffset, entryLength, answerStart, answerAt, nameAt}
 use Rattle.store.specs.Check.{filledTo, placeRight, placesRight, answerRight, answersRight, repeats, namesDiffer, storeNumber}
 use Rattle.store.specs.Read.{position}
@@ -87,7 +89,8 @@ module _ (f : Form) (gs : List Stored) (s : List ℕ) (fit : Holdable f gs) (rea
         let b : getD s (answerStart f i s) 0 ≡ 0x76 =
         ap (λ (k : ℕ). getD s k 0) (sym (add-zero (answerStart f i s))) ∙ byte-read 0 (omega arith)
         ∙ answer-begun (g .answer) (g .day) (fit .listed i h .number) in
-        rw (b, name-read, answer-allowed (g .answer) (g .day) (fit .listed i h .number))
+        let l = allowed (nameFor g) (answer-allowed (g .answer) (g .day) (fit .listed i h .number)) .0 in
+        rw (b, name-read, l, fit .listed i h .day)
 
   filled : (i : ℕ) → i ≤ length gs → filledTo f i s ≡ offsetOf i gs
   unfolding filledTo
@@ -225,7 +228,9 @@ module _ (f : Form) (s : List ℕ) (z : storeNumber f s ≡ 0) where
         let first : getD (answerAt f i s) 0 0 ≡ 0x76 = sym (byte-in b m 0 s (omega (arith, k .long))) ∙ ap (λ (j : ℕ). getD s j 0) (add-zero b) ∙ k .begins in
         record {
           inBytes = record { bytes = bytes-part b m s bytes; day = number-fits 4 (entryStart f i) s bytes };
-          number = sym (answer-named (answerAt f i s) (storedAt f i s .day) 0 (omega (arith, k .long)) first (rw (← stored-name i h) (sym (k .allowed))));
+          number = sym (answer-named (answerAt f i s) (storedAt f i s .day) 0 (omega (arith, k .long)) first
+              (rw (← stored-name i h) (sym (stored-allowed (nameAt f i s) (k .listed) (k .day)))));
+          day = rw (← stored-name i h) (k .day);
         }
 
     differ : (i j : ℕ) → i < j → j < length gs → nameFor (getD gs i nothing) ≡ nameFor (getD gs j nothing) → ⊥

@@ -8,13 +8,12 @@ use native.Mathlib.Omega.{arith}
 use lib.Dec.{eqb, leb}
 use lib.ListN.{length, getD}
 use borrow.Author.Tests.{lt-ltb, le-leb, lt-leb, eq-eqb, ne-eqb, ltb-true, ltb-false, leb-true, leb-false, eqb-true, eqb-false, not-true}
-use Rattle.octets.specs.Order.{unless}
 use Rattle.octets.specs.Search.{firstOf}
 use Rattle.octets.proofs.Tests.{never, and-left, and-right, and-false}
 use Rattle.octets.proofs.SearchLaws.{first-holds, first-before, first-least, none-built}
 use Rattle.catalog.specs.Table.{listed}
-use Rattle.catalog.specs.Name.{dayNamed, sameAnswer, nameNumber}
-use Rattle.catalog.proofs.NameLaws.{allowed, same-self, same-is, same-not}
+use Rattle.catalog.specs.Name.{dayStored, sameAnswer}
+use Rattle.catalog.proofs.NameLaws.{same-self, same-is, same-not}
 use Rattle.store.specs.Layout.{Form, headerSize, answers, streamLength, storeLength, entryOffset, entryLength, answerStart, nameAt}
 use Rattle.store.specs.Check.{headerFits, countsFit, filledTo, placeRight, answerRight, repeats}
 use Rattle.store.specs.Faults.{Whole, WithinBounds, Placed, Misplaced, gap, short, past, Begun, Misbegun, notFirst, notTrep, notDay, New, Repeated}
@@ -106,33 +105,32 @@ module _ (f : Form) (s : List ℕ) where
     pub begun-is : answerRight f i s ≡ true → Begun f i s
     unfolding answerRight
     begun-is h =
-        let a = allowed (nameAt f i s) (eqb-true _ _ (and-right (eqb (getD s (answerStart f i s) 0) 0x76) _ h)) in
-        record { first = eqb-true _ _ (and-left (eqb (getD s (answerStart f i s) 0) 0x76) _ h); trep = a .0; day = a .1 }
+        let a = and-right (eqb (getD s (answerStart f i s) 0) 0x76) _ h in
+        record {
+          first = eqb-true _ _ (and-left (eqb (getD s (answerStart f i s) 0) 0x76) _ h);
+          trep = and-left (listed (nameAt f i s .trep)) _ a;
+          day = and-right (listed (nameAt f i s .trep)) _ a;
+        }
 
     pub begun-passes : Begun f i s → answerRight f i s ≡ true
-    unfolding answerRight nameNumber
+    unfolding answerRight
     begun-passes b = rw (eq-eqb (getD s (answerStart f i s) 0) 0x76 (b .first), b .trep, b .day)
 
     pub misbegun-is : answerRight f i s ≡ false → Misbegun f i s
-    unfolding answerRight nameNumber
-    misbegun-is = go (eqb (getD s (answerStart f i s) 0) 0x76) (listed (nameAt f i s .trep)) (dayNamed (nameAt f i s)) refl refl refl
+    unfolding answerRight
+    misbegun-is = go (eqb (getD s (answerStart f i s) 0) 0x76) (listed (nameAt f i s .trep)) refl refl
       where
-        go : (b t d : Bool) → eqb (getD s (answerStart f i s) 0) 0x76 ≡ b → listed (nameAt f i s .trep) ≡ t → dayNamed (nameAt f i s) ≡ d
-            → (b && eqb (unless t 12 (unless d 12 0)) 0) ≡ false → Misbegun f i s
-        go false t d eb et ed h = notFirst (eqb-false _ _ eb)
-        go true false d eb et ed h = notTrep et
-        go true true false eb et ed h = notDay ed
-        go true true true eb et ed h = never (cc)
+        go : (b t : Bool) → eqb (getD s (answerStart f i s) 0) 0x76 ≡ b → listed (nameAt f i s .trep) ≡ t
+            → (b && (t && dayStored (nameAt f i s))) ≡ false → Misbegun f i s
+        go false t eb et h = notFirst (eqb-false _ _ eb)
+        go true false eb et h = notTrep et
+        go true true eb et h = notDay h
 
     pub misbegun-fails : Misbegun f i s → answerRight f i s ≡ false
-    unfolding answerRight nameNumber
+    unfolding answerRight
     misbegun-fails (notFirst h) = rw (ne-eqb (getD s (answerStart f i s) 0) 0x76 h)
     misbegun-fails (notTrep h) = and-false (eqb (getD s (answerStart f i s) 0) 0x76) _ (rw h)
-    misbegun-fails (notDay h) = and-false (eqb (getD s (answerStart f i s) 0) 0x76) _ (rw h (go (listed (nameAt f i s .trep))))
-      where
-        go : (t : Bool) → eqb (unless t 12 12) 0 ≡ false
-        go true = refl
-        go false = refl
+    misbegun-fails (notDay h) = and-false (eqb (getD s (answerStart f i s) 0) 0x76) _ (and-false (listed (nameAt f i s .trep)) _ h)
 
     -- One name
 

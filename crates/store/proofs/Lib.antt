@@ -15,4 +15,5 @@ pub mod Theorems
 pub mod Faults
 pub mod Refusals
 pub mod NarrowLaws
+pub mod Days
 pub mod Claims

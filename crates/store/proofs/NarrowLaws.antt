@@ -9,7 +9,7 @@ use Rattle.octets.specs.Search.{firstFrom}
 use Rattle.fields.specs.BigEndian.{numberAt}
 use Rattle.fields.proofs.NumberLaws.{read-two}
 use Rattle.catalog.specs.Table.{listed, knownTo, isActivities}
-use Rattle.catalog.specs.Name.{firstSecond, dayNamed, sameAnswer, nameNumber}
+use Rattle.catalog.specs.Name.{dayStored, sameAnswer}
 use Rattle.store.specs.Layout.{narrow, headerSize, entrySize, entriesSize, answers, streamLength, nameAt}
 use Rattle.store.specs.Check.{headerFits, countsFit, filledTo, placeRight, placesRight, answerRight, answersRight, repeats, namesDiffer, countRead}
 use Rattle.store.specs.Check.{faultAt, storeFault, storeNumber}
@@ -59,7 +59,7 @@ all-bits rest l =
 
 pub fault-examples : FaultExamples
 unfolding storeFault headerFits countsFit countRead filledTo placeRight placesRight answerRight answersRight repeats namesDiffer firstFrom headerSize
-    entrySize entriesSize nameAt numberAt nameNumber dayNamed firstSecond listed knownTo isActivities sameAnswer
+    entrySize entriesSize nameAt numberAt dayStored listed knownTo isActivities sameAnswer
 fault-examples =
     record {
       noHeader = refl;
@@ -71,5 +71,6 @@ fault-examples =
       endsShort = refl;
       offsetsFirst = refl;
       dayWrong = refl;
+      secondInEntry = refl;
       firstRepeat = refl;
     }

@@ -1,16 +1,18 @@
 -- Lookup, stream and answers, from the tests of the code.
 use Prim.Native.Nat.{ℕ, _<_, _≤_}
-use mathlib.Core.Bool.{true}
+use mathlib.Core.Bool.{true, false}
 use mathlib.Core.List.{List}
-use mathlib.Core.Path.{_≡_, sym, ap}
+use mathlib.Core.Path.{_≡_, sym, ap, _∙_}
 use lib.Dec.{ltb}
 use borrow.Author.Tests.{lt-ltb, le-ltb, ne-eqb}
 use Rattle.octets.specs.Search.{firstOf}
 use Rattle.octets.specs.declared.Place.{Place}
 use Rattle.octets.specs.Numbers.{refusedPlace}
-use Rattle.catalog.specs.Name.{sameAnswer}
+use Rattle.catalog.specs.Table.{listed}
+use Rattle.catalog.specs.Name.{rounded, sameAnswer}
 use Rattle.catalog.specs.declared.AnswerName.{AnswerName}
 use Rattle.catalog.proofs.TableLaws.{absent-unlisted}
+use Rattle.catalog.proofs.DayLaws.{rounded-trep}
 use Rattle.store.specs.declared.HeldAnswer.{HeldAnswer}
 use Rattle.store.specs.declared.TwoPlaces.{TwoPlaces}
 use Rattle.store.specs.Layout.{Form, answers, streamLength, streamStart, entryLength, answerStart, nameAt}
@@ -19,17 +21,19 @@ use Rattle.store.specs.Read.{position, lookupNumber, lookupPlace, lookup
 use Rattle.store.proofs.PositionLaws.{missing-not}
 use Rattle.store.proofs.StoreLaws.{unlisted-missing}
 
--- A search in a checked store; i is the position, n the count
+-- A search in a checked store; i is the position, n the count, kept the name under which the answer is kept
 
 module _ (f : Form) (s : List ℕ) (name : AnswerName) (z : storeNumber f s ≡ 0) where
   -- a held answer has a listed TREP, and FF is none
   pub find-none : (place : Place) → name .trep ≡ 0xFF → place ≡ refusedPlace 6 → place ≡ lookupPlace f name s
   unfolding lookupPlace lookupNumber
-  find-none place e q = rw q (rw (z, missing-not f name s (unlisted-missing f name s z (sym (absent-unlisted (name .trep) e)))))
+  find-none place e q =
+      let u : listed (rounded name .trep) ≡ false = ap listed (rounded-trep name) ∙ sym (absent-unlisted (name .trep) e) in
+      rw q (rw (z, missing-not f (rounded name) s (unlisted-missing f (rounded name) s z u)))
 
-  module _ (i n : ℕ) (q : n ≡ answers f s) (found : i ≡ firstOf (λ j. sameAnswer (nameAt f j s) name) n) where
-    p : i ≡ position f name s
-    p = rw (← q) found
+  module _ (i n : ℕ) (q : n ≡ answers f s) (kept : AnswerName) (r : kept ≡ rounded name) (found : i ≡ firstOf (λ j. sameAnswer (nameAt f j s) kept) n) where
+    p : i ≡ position f (rounded name) s
+    p = rw (← q, ← r) found
 
     pub find-missing : (place : Place) → n ≤ i → place ≡ refusedPlace 6 → place ≡ lookupPlace f name s
     unfolding lookupPlace lookupNumber
@@ -39,7 +43,7 @@ module _ (f : Form) (s : List ℕ) (name : AnswerName) (z : storeNumber f s ≡ 
         → _≡_ {A = Place} (record { number = 0; start = b; len = l }) (lookupPlace f name s)
     unfolding lookupPlace lookupNumber
     find-found b l h bs ls =
-        let t : ltb (position f name s) (answers f s) ≡ true = rw (← p, ← q) (lt-ltb i n h) in
+        let t : ltb (position f (rounded name) s) (answers f s) ≡ true = rw (← p, ← q) (lt-ltb i n h) in
         rw (z, t, ← p, bs, ls)
 
 -- A lookup; r is the number of the check

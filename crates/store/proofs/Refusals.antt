@@ -10,7 +10,7 @@ use lib.ListN.{length, getD}
 use borrow.Author.Tests.{lt-leb, ne-eqb, leb-false, eqb-false}
 use Rattle.octets.specs.Order.{unless, orElse}
 use Rattle.catalog.specs.Table.{listed}
-use Rattle.catalog.specs.Name.{dayNamed, nameNumber}
+use Rattle.catalog.specs.Name.{dayNamed, rounded, nameNumber}
 use Rattle.catalog.specs.declared.AnswerName.{AnswerName}
 use Rattle.store.specs.Layout.{Form, answers}
 use Rattle.store.specs.Check.{headerFits, countsFit, placesRight, answersRight, namesDiffer, storeNumber}
@@ -74,7 +74,7 @@ module _ (f : Form) (s : List ℕ) where
 
   pub lookup-fault : (name : AnswerName) (k : ℕ) → IsFault k → (lookupNumber f name s ≡ k) ↔ (storeNumber f s ≡ k)
   unfolding lookupNumber
-  lookup-fault name k q = fault-first _ k q (not-six (isHeld f name s) k (fault-not k 6 q (omega arith)) (fault-not k 0 q (omega arith)))
+  lookup-fault name k q = fault-first _ k q (not-six (isHeld f (rounded name) s) k (fault-not k 6 q (omega arith)) (fault-not k 0 q (omega arith)))
 
   pub held-fault : (i k : ℕ) → IsFault k → (heldAnswer f i s .number ≡ k) ↔ (storeNumber f s ≡ k)
   unfolding heldAnswer heldNumber
@@ -94,16 +94,16 @@ module _ (f : Form) (s : List ℕ) where
 
   pub lookup-not-five : (name : AnswerName) → lookupNumber f name s ≡ 5 → ⊥
   unfolding lookupNumber
-  lookup-not-five name e = not-six (isHeld f name s) 5 (λ z. omega arith) (λ z. omega arith) (or-is (storeNumber f s) _ 5 store-not-five e .rest)
+  lookup-not-five name e = not-six (isHeld f (rounded name) s) 5 (λ z. omega arith) (λ z. omega arith) (or-is (storeNumber f s) _ 5 store-not-five e .rest)
 
   pub held-not-five : (i : ℕ) → heldAnswer f i s .number ≡ 5 → ⊥
   unfolding heldAnswer heldNumber
   held-not-five i e = not-six (ltb i (answers f s)) 5 (λ z. omega arith) (λ z. omega arith) (or-is (storeNumber f s) _ 5 store-not-five e .rest)
 
   -- 6 exactly where an unbroken store holds no answer of that name
-  pub lookup-six : (name : AnswerName) → (lookupNumber f name s ≡ 6) ↔ ((storeNumber f s ≡ 0) × Missing f name s)
+  pub lookup-six : (name : AnswerName) → (lookupNumber f name s ≡ 6) ↔ ((storeNumber f s ≡ 0) × Missing f (rounded name) s)
   lookup-six name =
-      ((λ e. let m = lookup-missing-only f name s e in (m .first, m .rest)), (λ m. lookup-missing f name s (m .0) (missing-position f name s (m .1))))
+      ((λ e. let m = lookup-missing-only f name s e in (m .first, m .rest)), (λ m. lookup-missing f name s (m .0) (missing-position f (rounded name) s (m .1))))
 
 -- Each group of checks has one refusal
 

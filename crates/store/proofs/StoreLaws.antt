@@ -6,11 +6,9 @@ use mathlib.Core.Logic.{_⊎_, inl, inr, ⊎-elim}
 use mathlib.Core.Path.{_≡_, refl, sym, ap, _∙_}
 use native.Mathlib.Omega.{arith}
 use native.Mathlib.Nat.{add-zero}
-use lib.Dec.{eqb}
 use lib.ListN.{length, getD, drop}
 use lib.Seq.{drop-cons}
 use borrow.Author.Tests.{lt-ltb, le-ltb, ne-eqb, ltb-true, ltb-false, eqb-true, not-false}
-use Rattle.octets.specs.Order.{unless}
 use Rattle.octets.specs.Search.{firstOf, noneOf}
 use Rattle.octets.proofs.Tests.{and-left, and-right, never}
 use Rattle.octets.proofs.BufferLaws.{length-part}
@@ -18,8 +16,9 @@ use Rattle.octets.proofs.OrderLaws.{Both, unless-is, unless-fails, or-zero, or-
 use Rattle.octets.proofs.PartLaws.{byte-in}
 use Rattle.octets.proofs.SearchLaws.{none-at, first-before, first-found}
 use Rattle.catalog.specs.Table.{listed}
-use Rattle.catalog.specs.Name.{nameNumber}
-use Rattle.catalog.proofs.NameLaws.{allowed, same-self}
+use Rattle.catalog.specs.Name.{dayStored, rounded}
+use Rattle.catalog.proofs.NameLaws.{same-self}
+use Rattle.catalog.proofs.DayLaws.{rounded-trep}
 use Rattle.catalog.specs.declared.AnswerName.{AnswerName}
 use Rattle.store.specs.Layout.{Form, headerSize, answers, streamLength, storeLength, entryOffset, entryLength, answerStart, streamOf, answerAt, nameAt}
 use Rattle.store.specs.Check.{headerFits, countsFit, filledTo, placeRight, placesRight, answerRight, answersRight, repeats, namesDiffer, storeNumber}
@@ -27,7 +26,7 @@ use Rattle.store.specs.Faults.{IsFault, WithinBounds}
 use Rattle.store.specs.Claims.{Missing}
 use Rattle.store.specs.Read.{position, isHeld, lookupNumber, lookupPlace, lookupPart, streamPlace, streamPart}
 use Rattle.store.proofs.NumberLaws.{numberBy, number-in-order, past-13, past-14, past-15, past-16, past-17}
-use Rattle.store.proofs.FactLaws.{whole-passes, bounded-is, bounded-passes, placed-is}
+use Rattle.store.proofs.FactLaws.{whole-passes, bounded-is, bounded-passes, placed-is, begun-is}
 use Rattle.store.proofs.PositionLaws.{hasName, position-named, not-held}
 
 module _ (f : Form) where
@@ -85,7 +84,8 @@ module _ (f : Form) where
     pub long : 2 ≤ entryLength f i s
     pub inside : entryOffset f i s + entryLength f i s ≤ streamLength f s
     pub begins : getD s (answerStart f i s) 0 ≡ 0x76
-    pub allowed : nameNumber (nameAt f i s) ≡ 0
+    pub listed : listed (nameAt f i s .trep) ≡ true
+    pub day : dayStored (nameAt f i s) ≡ true
     pub new : repeats f i s ≡ false
 
   -- the places of all, and that they fill the stream
@@ -99,26 +99,27 @@ module _ (f : Form) where
     unfolding placesRight
     places-fill = eqb-true _ _ (and-right (noneOf (λ j. not (placeRight f j s)) (answers f s)) _ h)
 
-  -- answer i lies in the stream, has at least two bytes, begins 76, has a name that number 12 allows, and no earlier one has that name
+  -- answer i lies in the stream, has at least two bytes, begins 76 and a listed TREP, has a day that an entry may have, and no earlier one has its name
   pub held : (s : List ℕ) → storeNumber f s ≡ 0 → (i : ℕ) → i < answers f s → Held i s
-  unfolding answersRight answerRight namesDiffer
+  unfolding answersRight namesDiffer
   held s e i h =
       let u = unbroken s e in
       let p = placed-is f s i (places-at s (u .places) i h) in
-      let a : answerRight f i s ≡ true = not-false _ (none-at (λ j. not (answerRight f j s)) (answers f s) (u .right) i h) in
+      let a = begun-is f s i (not-false _ (none-at (λ j. not (answerRight f j s)) (answers f s) (u .right) i h)) in
       record {
         placed = p .offset;
         long = p .long;
         inside = omega (arith, p .offset, p .inside);
-        begins = eqb-true _ _ (and-left (eqb (getD s (answerStart f i s) 0) 0x76) _ a);
-        allowed = eqb-true _ _ (and-right (eqb (getD s (answerStart f i s) 0) 0x76) _ a);
+        begins = a .first;
+        listed = a .trep;
+        day = a .day;
         new = none-at (λ j. repeats f j s) (answers f s) (u .differ) i h;
       }
 
   -- no answer of an unbroken store has a name that the table does not list
   pub unlisted-missing : (name : AnswerName) (s : List ℕ) → storeNumber f s ≡ 0 → listed (name .trep) ≡ false → Missing f name s
   unlisted-missing name s z u i l e =
-      let t : listed (name .trep) ≡ true = rw e at (allowed (nameAt f i s) (held s z i l .allowed) .0) in
+      let t : listed (name .trep) ≡ true = rw e at (held s z i l .listed) in
       never (cc)
 
   module _ (s : List ℕ) (zero : storeNumber f s ≡ 0) (i : ℕ) (below : i < answers f s) where
@@ -159,25 +160,25 @@ module _ (f : Form) where
         let none : i ≤ firstOf (hasName f name s) i = ltb-false (firstOf (hasName f name s) i) i (held s zero i below .new) in
         first-found (hasName f name s) (answers f s) i below (same-self name) (λ j h. first-before (hasName f name s) i j (omega arith))
 
-  -- Lookups
+  -- Lookups, by the name under which a store keeps the answer
 
   module _ (name : AnswerName) (s : List ℕ) where
     -- a lookup is not refused exactly where the store is unbroken and the search ends at an answer
-    pub lookup-zero : storeNumber f s ≡ 0 → position f name s < answers f s → lookupNumber f name s ≡ 0
+    pub lookup-zero : storeNumber f s ≡ 0 → position f (rounded name) s < answers f s → lookupNumber f name s ≡ 0
     unfolding lookupNumber
-    lookup-zero z h = rw (z, lt-ltb (position f name s) (answers f s) h)
+    lookup-zero z h = rw (z, lt-ltb (position f (rounded name) s) (answers f s) h)
 
-    pub lookup-missing : storeNumber f s ≡ 0 → answers f s ≤ position f name s → lookupNumber f name s ≡ 6
+    pub lookup-missing : storeNumber f s ≡ 0 → answers f s ≤ position f (rounded name) s → lookupNumber f name s ≡ 6
     unfolding lookupNumber
-    lookup-missing z h = rw (z, le-ltb (position f name s) (answers f s) h)
+    lookup-missing z h = rw (z, le-ltb (position f (rounded name) s) (answers f s) h)
 
     -- 6 says that the store is unbroken and no held answer has that name
-    pub lookup-missing-only : lookupNumber f name s ≡ 6 → Both (storeNumber f s ≡ 0) (Missing f name s)
+    pub lookup-missing-only : lookupNumber f name s ≡ 6 → Both (storeNumber f s ≡ 0) (Missing f (rounded name) s)
     unfolding lookupNumber
     lookup-missing-only e =
         let o = or-is (storeNumber f s) _ 6 (store-not s 6 (λ z. omega arith) (λ q. omega (arith, q .0))) e in
-        let n = unless-fails (isHeld f name s) 6 0 (λ z. omega arith) (o .rest) in
-        record { first = o .first; rest = not-held f name s n }
+        let n = unless-fails (isHeld f (rounded name) s) 6 0 (λ z. omega arith) (o .rest) in
+        record { first = o .first; rest = not-held f (rounded name) s n }
 
     -- refused, the part is empty
     pub lookup-empty : (lookupNumber f name s ≡ 0 → ⊥) → lookupPart f name s ≡ []
@@ -186,35 +187,35 @@ module _ (f : Form) where
 
   pub record Found (name : AnswerName) (s : List ℕ) : Type 0 where
     pub whole : storeNumber f s ≡ 0
-    pub below : position f name s < answers f s
-    pub named : nameAt f (position f name s) s ≡ name
-    pub allowed : nameNumber name ≡ 0
-    pub place : lookupPlace f name s ≡ record { number = 0; start = answerStart f (position f name s) s; len = entryLength f (position f name s) s }
-    pub part : lookupPart f name s ≡ answerAt f (position f name s) s
+    pub below : position f (rounded name) s < answers f s
+    pub named : nameAt f (position f (rounded name) s) s ≡ rounded name
+    pub place : lookupPlace f name s
+        ≡ record { number = 0; start = answerStart f (position f (rounded name) s) s; len = entryLength f (position f (rounded name) s) s }
+    pub part : lookupPart f name s ≡ answerAt f (position f (rounded name) s) s
     pub least : 2 ≤ length (lookupPart f name s)
     pub most : length (lookupPart f name s) ≤ f .streamMost
     pub begins : lookupPart f name s ≡ 0x76 ∷ name .trep ∷ drop 2 (lookupPart f name s)
 
-  -- what a lookup that is not refused gives: an answer below the count with that very name, within the bounds, 76 and the TREP first
+  -- what a lookup that is not refused gives: an answer below the count, kept under that name, within the bounds, 76 and the TREP first
   pub found : (name : AnswerName) (s : List ℕ) → lookupNumber f name s ≡ 0 → Found name s
   unfolding lookupNumber lookupPlace lookupPart answerAt
   found name s e =
       let o = or-zero (storeNumber f s) _ e in
       let z = o .first in
-      let p : ℕ = position f name s in
-      let h : p < answers f s = ltb-true _ _ (unless-is (isHeld f name s) 6 _ 0 refl (o .rest) .first) in
-      let n : nameAt f p s ≡ name = position-named f name s h in
+      let p : ℕ = position f (rounded name) s in
+      let h : p < answers f s = ltb-true _ _ (unless-is (isHeld f (rounded name) s) 6 _ 0 refl (o .rest) .first) in
+      let n : nameAt f p s ≡ rounded name = position-named f (rounded name) s h in
+      let t : nameAt f p s .trep ≡ name .trep = ap (λ (x : AnswerName). x .trep) n ∙ rounded-trep name in
       let q : lookupPart f name s ≡ answerAt f p s = rw e in
       record {
         whole = z;
         below = h;
         named = n;
-        allowed = rw n at (held s z p h .allowed);
         place = rw e;
         part = q;
         least = rw q (answer-least s z p h);
         most = rw q (answer-most s z p h);
-        begins = rw q (rw n at (answer-begins s z p h));
+        begins = rw q (rw t at (answer-begins s z p h));
       }
 
   -- the stream of an unbroken store

@@ -13,6 +13,7 @@ use Rattle.octets.proofs.SearchLaws.{first-same}
 use Rattle.fields.specs.BigEndian.{bytesOf}
 use Rattle.octets.proofs.PartLaws.{bytes-append}
 use Rattle.fields.proofs.FieldLaws.{bytes-number}
+use Rattle.catalog.specs.Name.{rounded}
 use Rattle.catalog.specs.declared.AnswerName.{AnswerName}
 use Rattle.store.specs.Layout.{Form, Sized, answers, answerAt, nameAt}
 use Rattle.store.specs.Check.{storeNumber}
@@ -49,26 +50,28 @@ module _ (f : Form) (s : List ℕ) (z : storeNumber f s ≡ 0) where
     pub held-is : isHeld f name s ≡ isAmong name gs
     held-is = rw (position-is, contents-length f s)
 
-    pub lookup-is : lookupNumber f name s ≡ unless (isAmong name gs) 6 0
+  -- a lookup, by the name under which the answer is kept
+  module _ (name : AnswerName) where
+    pub lookup-is : lookupNumber f name s ≡ unless (isAmong (rounded name) gs) 6 0
     unfolding lookupNumber
-    lookup-is = rw (z, held-is)
+    lookup-is = rw (z, held-is (rounded name))
 
-    pub lookup-bytes : lookupPart f name s ≡ answerNamed name gs
+    pub lookup-bytes : lookupPart f name s ≡ answerNamed (rounded name) gs
     lookup-bytes =
-        let p : ℕ = position f name s in
-        let q = position-is in
+        let p : ℕ = position f (rounded name) s in
+        let q = position-is (rounded name) in
         let c = contents-length f s in
-        elim (decLt p (answers f s)) as (λ _. lookupPart f name s ≡ answerNamed name gs) [
+        elim (decLt p (answers f s)) as (λ _. lookupPart f name s ≡ answerNamed (rounded name) gs) [
           | yes l ↦
               found f name s (lookup-zero f name s z l) .part
               ∙ sym (ap (λ (x : Stored). x .answer) (contents-at f s p l))
               ∙ ap (λ (k : ℕ). getD gs k nothing .answer) q
           | no l ↦
-              let out : getD gs (placeOf name gs) nothing ≡ nothing = List·getD-eq-default gs nothing (omega arith) in
+              let out : getD gs (placeOf (rounded name) gs) nothing ≡ nothing = List·getD-eq-default gs nothing (omega arith) in
               lookup-empty f name s (λ e. missing-not (omega arith) e) ∙ ap (λ (x : Stored). x .answer) (sym out)
         ]
       where
-        missing-not : answers f s ≤ position f name s → lookupNumber f name s ≡ 0 → ⊥
+        missing-not : answers f s ≤ position f (rounded name) s → lookupNumber f name s ≡ 0 → ⊥
         missing-not h e = let l = found f name s e .below in omega arith
 
   pub stream-is : streamPart f s ≡ backToBack gs

@@ -8,7 +8,8 @@ use lib.Dec.{eqb, leb}
 use Rattle.octets.specs.Order.{unless}
 use Rattle.octets.specs.Search.{firstOf, anyOf, noneOf}
 use Rattle.octets.specs.Numbers.{done, storeShort, storeBounds, storeEntry, storeAnswer, storeTwice}
-use Rattle.catalog.specs.Name.{sameAnswer, nameNumber}
+use Rattle.catalog.specs.Table.{listed}
+use Rattle.catalog.specs.Name.{dayStored, sameAnswer}
 use Rattle.store.specs.declared.Fault.{Fault}
 use Rattle.store.specs.Layout.{Form, headerSize, answers, streamLength, entryOffset, entryLength}
 use Rattle.store.specs.Layout.{storeLength, answerStart, nameAt}
@@ -40,7 +41,9 @@ module _ (f : Form) where
 
   -- "each 76, listed TREP, data", "day (4, a multiple of 86,400, zero unless activities)"
   unfoldable pub answerRight : ℕ → List ℕ → Bool
-  answerRight i s = eqb (getD s (answerStart f i s) 0) 0x76 && eqb (nameNumber (nameAt f i s)) 0
+  answerRight i s =
+      eqb (getD s (answerStart f i s) 0) 0x76
+      && (listed (nameAt f i s .trep) && dayStored (nameAt f i s))
 
   unfoldable pub answersRight : List ℕ → Bool
   answersRight s = noneOf (λ i. not (answerRight i s)) (answers f s)

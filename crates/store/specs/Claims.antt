@@ -10,10 +10,11 @@ use Rattle.octets.specs.Order.{unless}
 use Rattle.octets.specs.Numbers.{done, notHeld, notInTable}
 use Rattle.octets.specs.Buffer.{partAt}
 use Rattle.catalog.specs.Table.{listed}
-use Rattle.catalog.specs.Name.{dayNamed}
+use Rattle.catalog.specs.Name.{dayNamed, rounded}
 use Rattle.catalog.specs.declared.AnswerName.{AnswerName}
 use Rattle.store.specs.Layout.{Form, Sized, narrow, answers, storeLength, nameAt}
 use Rattle.store.specs.Check.{headerFits, countsFit, placesRight, answersRight, namesDiffer, storeNumber}
+use Rattle.store.specs.Days.{DayClaims}
 use Rattle.store.specs.Faults.{IsFault, FaultClaims, FaultExamples}
 use Rattle.store.specs.Read.{lookupNumber, lookupPart, streamPlace, streamPart, countHeld, heldAnswer}
 use Rattle.store.specs.Answer.{nameOf, answerNumber}
@@ -31,8 +32,8 @@ module _ (f : Form) where
     begins : answersRight f s ≡ false → Broken s
     names : namesDiffer f s ≡ false → Broken s
 
--- "12: answer .. not in the table below, or its day no multiple of 86,400, or a day other than zero outside activities,
--- or an answer to append that does not begin 76 and a listed TREP"
+-- "12: answer .. not in the table below, .. or a day other than zero outside activities, or an answer to append that
+-- does not begin 76 and a listed TREP"
 pub data Unlisted (answer : List ℕ) (day : ℕ) : Type 0 where
   short : length answer < 2 → Unlisted answer day
   first : getD answer 0 0 ≢ 0x76 → Unlisted answer day
@@ -66,7 +67,7 @@ module _ (f : Form) where
     pub heldNotFive : (i : ℕ) (s : List ℕ) → heldAnswer f i s .number ≢ 5
     -- "6: answer not held"
     pub six : (name : AnswerName) (s : List ℕ)
-        → (lookupNumber f name s ≡ notHeld) ↔ ((storeNumber f s ≡ done) × Missing f name s)
+        → (lookupNumber f name s ≡ notHeld) ↔ ((storeNumber f s ≡ done) × Missing f (rounded name) s)
 
 -- The store as a list
 
@@ -85,9 +86,9 @@ module _ (f : Form) where
         → answerNamed (nameFor (getD gs i nothing)) gs ≡ getD gs i nothing .answer
     -- a lookup of an unbroken store is one of the list
     pub lookup : (name : AnswerName) (s : List ℕ) → storeNumber f s ≡ done
-        → lookupNumber f name s ≡ unless (isAmong name (contents f s)) notHeld done
+        → lookupNumber f name s ≡ unless (isAmong (rounded name) (contents f s)) notHeld done
     pub lookupBytes : (name : AnswerName) (s : List ℕ) → storeNumber f s ≡ done
-        → lookupPart f name s ≡ answerNamed name (contents f s)
+        → lookupPart f name s ≡ answerNamed (rounded name) (contents f s)
     -- so are the stream, "the answers back to back", and the k-th answer
     pub stream : (s : List ℕ) → storeNumber f s ≡ done → streamPart f s ≡ backToBack (contents f s)
     pub kth : (k : ℕ) (s : List ℕ) → storeNumber f s ≡ done → k < length (contents f s)
@@ -129,4 +130,5 @@ pub record StoreClaims : Type 0 where
   pub twelveOnly : (answer : List ℕ) (day : ℕ)
       → (answerNumber answer day ≡ done) ⊎ (answerNumber answer day ≡ notInTable)
   pub list : (f : Form) → Sized f → ListClaims f
+  pub days : (f : Form) → DayClaims f
   pub narrowForm : NarrowClaims

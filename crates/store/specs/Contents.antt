@@ -2,7 +2,7 @@
 -- entries and stream; the contents of a store are the list read from it. Check.antt and Read.antt speak of the
 -- bytes; Claims.antt says what they are of the list.
 use Prim.Native.Nat.{ℕ, _+_, _<_, _≤_}
-use mathlib.Core.Bool.{Bool}
+use mathlib.Core.Bool.{Bool, true}
 use mathlib.Core.List.{List, [], _∷_, _++_}
 use mathlib.Core.Path.{_≡_}
 use lib.ListN.{length, getD, take}
@@ -11,7 +11,7 @@ use Rattle.fields.specs.BigEndian.{bytesOf}
 use Rattle.octets.specs.Buffer.{Bytes}
 use Rattle.octets.specs.Search.{firstOf, anyOf}
 use Rattle.octets.specs.Values.{upTo}
-use Rattle.catalog.specs.Name.{sameAnswer}
+use Rattle.catalog.specs.Name.{dayStored, rounded, sameAnswer}
 use Rattle.catalog.specs.declared.AnswerName.{AnswerName}
 use Rattle.store.specs.Layout.{Form, answers, entryStart, entryDay, answerAt}
 use Rattle.store.specs.Answer.{nameOf, answerNumber}
@@ -24,6 +24,10 @@ pub record Stored : Type 0 where
 -- its name: the TREP stands second in the answer
 abbrev pub nameFor : Stored → AnswerName
 nameFor g = nameOf (g .answer) (g .day)
+
+-- as a store keeps it: "Store entries keep the first second of the day" (document 02, Req 03)
+abbrev pub kept : Stored → Stored
+kept g = record { answer = g .answer; day = rounded (nameFor g) .day }
 
 -- what stands where a list has no i-th one
 abbrev pub nothing : Stored
@@ -90,10 +94,11 @@ pub record InBytes (g : Stored) : Type 0 where
   pub bytes : Bytes (g .answer)
   pub day : g .day < 0x100000000
 
--- an answer that a store may hold: "each 76, listed TREP, data", and a day that is allowed
+-- an answer that a store may hold: "each 76, listed TREP, data", and a day that its entry may have
 pub record Listed (g : Stored) : Type 0 where
   pub inBytes : InBytes g
   pub number : answerNumber (g .answer) (g .day) ≡ done
+  pub day : dayStored (nameFor g) ≡ true
 
 -- a list that a store of this form may hold
 pub record Holdable (f : Form) (gs : List Stored) : Type 0 where

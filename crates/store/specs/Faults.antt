@@ -8,7 +8,7 @@ use mathlib.Core.Path.{_≡_}
 use lib.ListN.{length, getD, replicate}
 use Rattle.octets.specs.Numbers.{storeShort, storeBounds, storeEntry, storeAnswer, storeTwice}
 use Rattle.catalog.specs.Table.{listed}
-use Rattle.catalog.specs.Name.{dayNamed}
+use Rattle.catalog.specs.Name.{dayStored}
 use Rattle.store.specs.Layout.{Form, narrow, headerSize, answers, streamLength, storeLength, entryOffset}
 use Rattle.store.specs.Layout.{entryLength, answerStart, nameAt}
 use Rattle.store.specs.Check.{filledTo, faultAt, noFault, storeFault, storeNumber}
@@ -52,12 +52,12 @@ module _ (f : Form) where
   pub record Begun (i : ℕ) (s : List ℕ) : Type 0 where
     pub first : getD s (answerStart f i s) 0 ≡ 0x76
     pub trep : listed (nameAt f i s .trep) ≡ true
-    pub day : dayNamed (nameAt f i s) ≡ true
+    pub day : dayStored (nameAt f i s) ≡ true
 
   pub data Misbegun (i : ℕ) (s : List ℕ) : Type 0 where
     notFirst : getD s (answerStart f i s) 0 ≢ 0x76 → Misbegun i s
     notTrep : listed (nameAt f i s .trep) ≡ false → Misbegun i s
-    notDay : dayNamed (nameAt f i s) ≡ false → Misbegun i s
+    notDay : dayStored (nameAt f i s) ≡ false → Misbegun i s
 
   pub record AllBegun (s : List ℕ) : Type 0 where
     pub filled : Filled s
@@ -162,6 +162,13 @@ pub record FaultExamples : Type 0 where
       storeFault narrow
       (0x00 ∷ 0x02 ∷ 0x00 ∷ 0x04 ∷ entryOf 0 0 2 ++ (entryOf 1 2 2 ++ (0x76 ∷ 0x01 ∷ 0x76 ∷ 0x02 ∷ [])))
       ≡ faultAt storeAnswer 1
+  -- activities under the second 86,401 (document 02, Req 03)
+  pub secondInEntry :
+      storeFault narrow
+      (0x00 ∷ 0x01 ∷ 0x00 ∷ 0x03
+      ∷ 0x00 ∷ 0x01 ∷ 0x51 ∷ 0x81 ∷ 0x00 ∷ 0x00 ∷ 0x00 ∷ 0x03
+      ∷ 0x76 ∷ 0x02 ∷ 0xAA ∷ [])
+      ≡ faultAt storeAnswer 0
   -- answer 2 repeats answer 1, before answer 3 repeats answer 0
   pub firstRepeat :
       storeFault narrow

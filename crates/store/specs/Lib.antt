@@ -5,4 +5,5 @@ pub mod Faults
 pub mod Read
 pub mod Answer
 pub mod Contents
+pub mod Days
 pub mod Claims

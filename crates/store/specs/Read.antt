@@ -9,7 +9,7 @@ use Rattle.octets.specs.Numbers.{done, notHeld, changedBy, placeBy, countedBy}
 use Rattle.octets.specs.Buffer.{partAt}
 use Rattle.octets.specs.declared.Place.{Place}
 use Rattle.octets.specs.declared.Counted.{Counted}
-use Rattle.catalog.specs.Name.{zeroName, sameAnswer}
+use Rattle.catalog.specs.Name.{zeroName, rounded, sameAnswer}
 use Rattle.catalog.specs.declared.AnswerName.{AnswerName}
 use Rattle.store.specs.declared.HeldAnswer.{HeldAnswer}
 use Rattle.store.specs.declared.TwoPlaces.{TwoPlaces}
@@ -25,14 +25,17 @@ module _ (f : Form) where
   abbrev pub isHeld : AnswerName → List ℕ → Bool
   isHeld name s = anyOf (λ i. sameAnswer (nameAt f i s) name) (answers f s)
 
-  -- "Lookup: 5, 6 (unlisted names too)", with the number of the fault for 5
+  -- "Lookup: 5, 6 (unlisted names too)", with the number of the fault for 5; "lookup .. compare whole days for
+  -- activities" (document 02, Req 03): by the name under which a store keeps the answer
   unfoldable pub lookupNumber : AnswerName → List ℕ → ℕ
-  lookupNumber name s = orElse (storeNumber f s) (unless (isHeld name s) notHeld done)
+  lookupNumber name s = orElse (storeNumber f s) (unless (isHeld (rounded name) s) notHeld done)
 
   -- "A lookup hands back the answer as part of the buffer, or 6"
   unfoldable pub lookupPlace : AnswerName → List ℕ → Place
   lookupPlace name s =
-      placeBy (lookupNumber name s) (answerStart f (position name s) s) (entryLength f (position name s) s)
+      placeBy (lookupNumber name s)
+      (answerStart f (position (rounded name) s) s)
+      (entryLength f (position (rounded name) s) s)
 
   -- two lookups for one check, with the number of the store beside them
   abbrev pub lookupBoth : AnswerName → AnswerName → List ℕ → TwoPlaces

@@ -5,7 +5,7 @@ use octets::wire::ANSWER;
 ghost use mathlib.Core.Path.{_≡_};
 ghost use Rattle.store.specs.Answer.{answerNumber};
 
-// 0 for an answer that begins 76 and a listed TREP, under a day that may be named; else 12.
+// 0 for an answer that begins 76 and a listed TREP, under a second that may be named; else 12.
 pub fn answer_number(answer: &[u8], day: u32) -> u8
     ensures { λ r. ⌜ r ≡ answerNumber (now (answer .entry)) day ⌝ }
 {

@@ -109,10 +109,11 @@ fn answer_right(store: &[u8], i: usize) -> bool
     if octets::byte::byte_at(store, crate::layout::answer_start(store, i)) != ANSWER {
         return false;
     }
-    catalog::name_number(crate::layout::name_at(store, i)) == 0
+    catalog::name_stored(crate::layout::name_at(store, i))
 }
 
-// 16: the first answer that does not begin 76 or has a name that number 12 refuses; the count where there is none.
+// 16: the first answer that does not begin 76 and a listed TREP, or has a day that an entry may not have; the count
+// where there is none.
 fn first_wrong(store: &[u8]) -> usize
     requires { ⌜ streamStart narrow (now store) ≤ length (now store) ⌝ }
     ensures { λ r. ⌜ r ≡ wrongAt narrow (now (store .entry)) ⌝ }

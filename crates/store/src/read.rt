@@ -12,8 +12,8 @@ ghost use Rattle.store.specs.Check.{storeNumber};
 ghost use Rattle.store.specs.Read.{lookupNumber, lookupPlace, lookupBoth, lookupPart, streamPlace};
 ghost use Rattle.store.specs.Read.{streamPart, countHeld, heldAnswer};
 
-// Where the answer with this name lies in a store that was checked: 6 where it is not held. FF is no TREP, and nothing
-// is looked for.
+// Where the answer with this name lies in a store that was checked: 6 where it is not held. Activities are kept under
+// the first second of their day. FF is no TREP, and nothing is looked for.
 fn find(store: &[u8], name: AnswerName) -> Place
     requires { ⌜ storeNumber narrow (now store) ≡ 0 ⌝ }
     ensures { λ r. ⌜ r ≡ lookupPlace narrow name (now (store .entry)) ⌝ }
@@ -21,8 +21,9 @@ fn find(store: &[u8], name: AnswerName) -> Place
     if name.trep == ABSENT {
         return octets::refused_place(NOT_HELD);
     }
+    let kept = catalog::rounded(name);
     let n = crate::layout::answers(store);
-    let i = crate::layout::first_named(store, n, name);
+    let i = crate::layout::first_named(store, n, kept);
     if n <= i {
         return octets::refused_place(NOT_HELD);
     }

@@ -4,3 +4,4 @@ pub mod TakenLaws
 pub mod AfterLaws
 pub mod CallLaws
 pub mod BoundLaws
+pub mod Days

@@ -4,3 +4,4 @@ pub mod SentLaws
 pub mod ReplyLaws
 pub mod CallLaws
 pub mod BoundLaws
+pub mod Days

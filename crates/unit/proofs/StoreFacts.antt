@@ -4,6 +4,7 @@ use mathlib.Core.List.{List}
 use mathlib.Core.Path.{_≡_}
 use native.Mathlib.Omega.{arith}
 use lib.ListN.{length}
+use Rattle.catalog.specs.Name.{rounded}
 use Rattle.catalog.specs.declared.AnswerName.{AnswerName}
 use Rattle.store.specs.Layout.{narrow}
 use Rattle.store.specs.Read.{position, lookupNumber, lookupPlace}
@@ -20,7 +21,7 @@ module _ (s : List ℕ) where
     located : lookupNumber narrow name s ≡ 0 → InStore (lookupPlace narrow name s .start) (lookupPlace narrow name s .len)
     located z =
         let f = found narrow name s z in
-        let i : ℕ = position narrow name s in
+        let i : ℕ = position narrow (rounded name) s in
         rw (f .place)
         (record {
           two = held narrow s (f .whole) i (f .below) .long;

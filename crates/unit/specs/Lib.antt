@@ -2,3 +2,4 @@
 pub mod State
 pub mod Call
 pub mod Piece
+pub mod Days

@@ -1,4 +1,6 @@
-// Runs the frames of source document 003's table and the lengths of document 01's trade cases, one line for each.
+// Runs the frames of source document 003's table, the lengths of document 01's trade cases and the days of document 02,
+// one line for each.
+mod days;
 mod lengths;
 mod print;
 mod table;
@@ -19,4 +21,5 @@ fn main() {
     table::transfer_responses();
     table::negative_responses();
     lengths::lengths();
+    days::days();
 }

@@ -1,4 +1,4 @@
-/* Document 01, Transfer types, Bench store and Record arrays; document 02, Req 06. */
+/* Document 01, Transfer types, Bench store and Record arrays; document 02, Req 03 and Req 06. */
 #include "reference.h"
 #include "tables.h"
 
@@ -21,10 +21,26 @@ bool ref_activities(uint8_t trtp)
     return trtp == 0x02 || trtp == 0x22 || trtp == 0x32;
 }
 
-bool ref_named(uint8_t trep, uint32_t day)
+static bool listed(uint8_t trep)
 {
-    if (!ref_known(0, trep) && !ref_known(1, trep) && !ref_known(2, trep)) return false;
-    return ref_activities(trep) ? day % 86400 == 0 : day == 0;
+    return ref_known(0, trep) || ref_known(1, trep) || ref_known(2, trep);
+}
+
+bool ref_named(uint8_t trep, uint32_t second)
+{
+    return listed(trep) && (ref_activities(trep) || second == 0);
+}
+
+/* The name that an entry may have, which is number 16's rule: a multiple of 86,400, zero unless activities. */
+static bool entry_named(uint8_t trep, uint32_t day)
+{
+    return listed(trep) && (ref_activities(trep) ? day % 86400 == 0 : day == 0);
+}
+
+/* The day under which a store has what is asked for by this second: a day is any second in it, but only activities have days. */
+static uint32_t stored_day(uint8_t trep, uint32_t second)
+{
+    return ref_activities(trep) ? 86400 * (second / 86400) : second;
 }
 
 uint32_t ref_be16(const uint8_t *b)
@@ -99,7 +115,7 @@ tacho_fault ref_store_fault(const uint8_t *s, size_t len)
     }
     if (end < t) return (tacho_fault){15, n};
     for (size_t i = 0; i < n; i++)
-        if (answer(s, i)[0] != 0x76 || !ref_named(answer(s, i)[1], day_of(s, i))) return (tacho_fault){16, i};
+        if (answer(s, i)[0] != 0x76 || !entry_named(answer(s, i)[1], day_of(s, i))) return (tacho_fault){16, i};
     for (size_t i = 0; i < n; i++)
         for (size_t j = 0; j < i; j++)
             if (answer(s, i)[1] == answer(s, j)[1] && day_of(s, i) == day_of(s, j)) return (tacho_fault){17, i};
@@ -111,20 +127,21 @@ uint8_t ref_store_check(const uint8_t *s, size_t len)
     return ref_store_fault(s, len).number;
 }
 
-tacho_part ref_store_find(const uint8_t *s, uint8_t trep, uint32_t day)
+tacho_part ref_store_find(const uint8_t *s, uint8_t trep, uint32_t second)
 {
     size_t n = count_of(s);
+    uint32_t day = stored_day(trep, second);
     for (size_t i = 0; i < n; i++)
         if (answer(s, i)[1] == trep && day_of(s, i) == day)
             return (tacho_part){0, (size_t)(answer(s, i) - s), len_of(s, i)};
     return (tacho_part){6, 0, 0};
 }
 
-tacho_part ref_store_lookup(const uint8_t *s, size_t len, uint8_t trep, uint32_t day)
+tacho_part ref_store_lookup(const uint8_t *s, size_t len, uint8_t trep, uint32_t second)
 {
     uint8_t number = ref_store_check(s, len);
     if (number) return (tacho_part){number, 0, 0};
-    return ref_store_find(s, trep, day);
+    return ref_store_find(s, trep, second);
 }
 
 tacho_part ref_store_stream(const uint8_t *s, size_t len)
@@ -149,17 +166,18 @@ tacho_held ref_store_answer(const uint8_t *s, size_t len, size_t k)
     return (tacho_held){0, a[1], day_of(s, k), (size_t)(a - s), len_of(s, k)};
 }
 
-tacho_written ref_store_append(uint8_t *s, size_t len, const uint8_t *a, size_t a_len, uint32_t day)
+tacho_written ref_store_append(uint8_t *s, size_t len, const uint8_t *a, size_t a_len, uint32_t second)
 {
     uint8_t number = ref_store_check(s, len);
     if (number) return (tacho_written){number, 0};
-    if (a_len < 2 || a[0] != 0x76 || !ref_named(a[1], day)) return (tacho_written){12, 0};
-    if (ref_store_find(s, a[1], day).number == 0) return (tacho_written){7, 0};
+    if (a_len < 2 || a[0] != 0x76 || !ref_named(a[1], second)) return (tacho_written){12, 0};
+    if (ref_store_find(s, a[1], second).number == 0) return (tacho_written){7, 0};
     size_t n = count_of(s), t = stream_len_of(s);
     if (n + 1 > 64 || a_len > 60000 || t + a_len > 60000) return (tacho_written){8, 0};
     size_t whole = stream_at(n + 1) + t + a_len;
     if (len < whole) return (tacho_written){4, 0};
     uint8_t *e = s + stream_at(n), *stream = e + REF_STORE_ENTRY;
+    uint32_t day = stored_day(a[1], second);
     memmove(stream, e, t);
     memcpy(stream + t, a, a_len);
     put16(e + REF_ENTRY_AT_DAY, day >> 16);

@@ -6,10 +6,10 @@
 
 bool ref_known(uint8_t kind, uint8_t trtp);
 bool ref_activities(uint8_t trtp);
-bool ref_named(uint8_t trep, uint32_t day); /* number 12's rule */
+bool ref_named(uint8_t trep, uint32_t second); /* number 12's rule for a name */
 uint32_t ref_be16(const uint8_t *b);
 uint32_t ref_be32(const uint8_t *b);
-tacho_part ref_store_find(const uint8_t *store, uint8_t trep, uint32_t day); /* in a checked store */
+tacho_part ref_store_find(const uint8_t *store, uint8_t trep, uint32_t second); /* in a checked store */
 
 /* A reader of one field of a packed state, by the file's own `unpack` into its struct. */
 #define REF_READER(name, unpacked, field)                         \

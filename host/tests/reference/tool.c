@@ -1,4 +1,4 @@
-/* Document 01, The tool. */
+/* Document 01, The tool; document 02, Req 03. */
 #include "reference.h"
 #include "tables.h"
 
@@ -6,7 +6,7 @@
 
 typedef struct {
     uint8_t request, outcome, code, trep;
-    uint32_t day;
+    uint32_t day; /* the second as it was given */
     uint8_t sendings;
     uint32_t expected, held;
 } tool;

@@ -1,4 +1,4 @@
-/* Document 01, The unit. */
+/* Document 01, The unit; document 02, Req 03. */
 #include "reference.h"
 #include "tables.h"
 
@@ -6,7 +6,7 @@
 
 typedef struct {
     uint8_t kind, rate, pending, phase, trep;
-    uint32_t day;
+    uint32_t day; /* the second as it came */
     uint32_t last;
 } unit;
 
@@ -98,7 +98,6 @@ static size_t on_transfer(unit *u, const uint8_t *store, const uint8_t *d, size_
     bool dated = ref_activities(d[1]);
     if (n != (dated ? 6u : 2u)) return refuse(0x36, 0x13, reply);
     uint32_t day = dated ? ref_be32(d + 2) : 0;
-    if (day % 86400) return refuse(0x36, 0x31, reply);
     if (u->phase < TACHO_PHASE_GRANTED) return refuse(0x36, 0x22, reply);
     tacho_part a = ref_store_find(store, d[1], day);
     if (a.number) return refuse(0x36, 0xFA, reply);

@@ -1,4 +1,4 @@
--- 76, then the rule of number 12 for its name.
+-- 76, then a name that an entry may have.
 use Rattle.store.proofs.CheckLaws.{answer-other, answer-is}
 use borrow.Author.Needs.{needs}
 use Rattle.store.proofs.check.answer_right.Statement.{statement}

@@ -14,6 +14,7 @@ find-spec = tie.close (tie.spec
     (λ c κs. search all)
     (λ c κs. search all)
     (λ c κs. search all)
+    (λ c κs. search all)
     (λ c. search all)
     (λ c κs. search all)
     (λ c κs. search all)
