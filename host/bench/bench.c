@@ -26,15 +26,20 @@ typedef struct {
     __typeof__(tacho_unit_step) *unit_step;
     __typeof__(tacho_tool_begin) *tool_begin;
     __typeof__(tacho_tool_arrived) *tool_arrived;
+    __typeof__(tacho_frame_write_at) *frame_write_at;
+    __typeof__(tacho_unit_step_at) *unit_step_at;
+    __typeof__(tacho_tool_arrived_at) *tool_arrived_at;
 } side;
 
-#define SIDE(P)                                                         \
-    {                                                                   \
-        .checksum = P##_checksum, .frame_check = P##_frame_check,       \
-        .frame_write = P##_frame_write, .store_check = P##_store_check, \
-        .store_append = P##_store_append, .array_at = P##_array_at,     \
-        .record_at = P##_record_at, .unit_step = P##_unit_step,         \
-        .tool_begin = P##_tool_begin, .tool_arrived = P##_tool_arrived, \
+#define SIDE(P)                                                                  \
+    {                                                                            \
+        .checksum = P##_checksum, .frame_check = P##_frame_check,                \
+        .frame_write = P##_frame_write, .store_check = P##_store_check,          \
+        .store_append = P##_store_append, .array_at = P##_array_at,              \
+        .record_at = P##_record_at, .unit_step = P##_unit_step,                  \
+        .tool_begin = P##_tool_begin, .tool_arrived = P##_tool_arrived,          \
+        .frame_write_at = P##_frame_write_at, .unit_step_at = P##_unit_step_at,  \
+        .tool_arrived_at = P##_tool_arrived_at,                                  \
     }
 static const side proved = SIDE(tacho), reference = SIDE(ref);
 
@@ -46,10 +51,14 @@ typedef struct {
 
 enum { ANSWERS_MOST = 64, RECORD_SIZE = 5, RECORDS = 9999, ARRAY_HEADER = 5 };
 
+/* Other addresses than the lab's. */
+enum { OTHER_UNIT = TACHO_UNIT_ADDRESS, OTHER_TOOL = 0xFB };
+
 /* The inputs, which no case changes: a case that changes a state or a store has a copy of it. */
 static store one, many, all_but_one, full, rising, mixed, falling;
 static uint8_t granted[TACHO_UNIT_STATE], fresh[TACHO_TOOL_STATE], begun[TACHO_TOOL_STATE];
-static uint8_t answer[TACHO_ANSWER_MOST], frame[TACHO_FRAME_MOST], body[ARRAY_HEADER + RECORD_SIZE * RECORDS];
+static uint8_t answer[TACHO_ANSWER_MOST], frame[TACHO_FRAME_MOST], other_frame[TACHO_FRAME_MOST];
+static uint8_t body[ARRAY_HEADER + RECORD_SIZE * RECORDS];
 
 /* What the cases write to. */
 static uint8_t work[TACHO_STORE_MOST], room[TACHO_ANSWER_MOST], out[TACHO_FRAME_MOST];
@@ -104,11 +113,28 @@ static void unit_call_64(const side *c)
     unit_call(c, &many);
 }
 
+/* The same at other addresses. */
+static void unit_call_elsewhere(const side *c)
+{
+    uint8_t state[TACHO_UNIT_STATE], request[8];
+    memcpy(state, granted, sizeof state);
+    size_t n = c->frame_write_at(OTHER_UNIT, OTHER_TOOL, (const uint8_t[]){0x36, 0x00}, 2, false, request, sizeof request).len;
+    sink += c->unit_step_at(OTHER_UNIT, OTHER_TOOL, state, sizeof state, one.bytes, one.len, request, n, out, sizeof out).len;
+}
+
 static void arrival(const side *c)
 {
     uint8_t state[TACHO_TOOL_STATE];
     memcpy(state, begun, sizeof state);
     sink += c->tool_arrived(state, sizeof state, frame, sizeof frame, room, sizeof room, out, sizeof out).len;
+}
+
+static void arrival_elsewhere(const side *c)
+{
+    uint8_t state[TACHO_TOOL_STATE];
+    memcpy(state, begun, sizeof state);
+    sink += c->tool_arrived_at(OTHER_UNIT, OTHER_TOOL, state, sizeof state, other_frame, sizeof other_frame, room, sizeof room, out,
+                               sizeof out).len;
 }
 
 /* The tool puts a frame out until it is done: on this line nothing is lost. */
@@ -173,7 +199,9 @@ static const struct {
     {"checksum-of-17-bytes", sum_17, 200000},             {"checksum-of-260-bytes", sum_260, 200000},
     {"checksum-of-60000-bytes", sum_60000, 2000},         {"frame-check-260-bytes", frame_judged, 200000},
     {"unit-call-1-answer", unit_call_1, 200000},          {"unit-call-64-answers", unit_call_64, 20000},
-    {"tool-arrival", arrival, 200000},                    {"download-59998-bytes", download, 200},
+    {"unit-call-1-answer-ee-fb", unit_call_elsewhere, 200000},
+    {"tool-arrival", arrival, 200000},                    {"tool-arrival-ee-fb", arrival_elsewhere, 200000},
+    {"download-59998-bytes", download, 200},
     {"store-check-1-answer", check_1, 200000},            {"store-check-64-answers", check_64, 20000},
     {"store-check-64-rising-names", check_rising, 20000}, {"store-check-64-mixed-names", check_mixed, 20000},
     {"store-check-64-falling-names", check_falling, 20000},
@@ -214,6 +242,8 @@ static void make_stores(void)
     put(&full, 0x24, sizeof answer, 0);
     size_t n = tacho_sub_message(answer + 2, sizeof answer - 2, 0x24, 1, frame, sizeof frame).len;
     made(n == sizeof frame, "a full frame");
+    n = tacho_sub_message_at(OTHER_UNIT, OTHER_TOOL, answer + 2, sizeof answer - 2, 0x24, 1, other_frame, sizeof other_frame).len;
+    made(n == sizeof other_frame, "a full frame at other addresses");
     answer[1] = 0x22; /* what `append` puts last */
 }
 

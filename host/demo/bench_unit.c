@@ -18,6 +18,9 @@ static const char help[] =
     "  --rate N         keep the port at this baud rate\n"
     "  --parity WHICH   even, odd or none (default even: Appendix 6 asks for it, which is not among this\n"
     "                   build's sources)\n"
+    "  --unit XX        the unit's address, two hexadecimal digits, with or without 0x in front (default EE)\n"
+    "  --tool XX        the tool's address (default F0)\n"
+    "                   Both programs must be given the same two addresses, and the two must differ.\n"
     "  --kind N         0 generation 1, 1 generation 2 version 1, 2 generation 2 version 2 (default 2)\n"
     "  --silence N      so many milliseconds without a byte end a string (P4 is at most 20; default 25: a byte takes over 1 by itself,\n"
     "                   and some adapters hand bytes on late)\n"
@@ -38,7 +41,8 @@ static const unsigned long bauds[] = {0, 9600, 19200, 38400, 57600, 115200};
 #define RATE_FOLLOWED ULONG_MAX
 
 typedef struct {
-    const char *store, *line, *pty, *stream, *parity;
+    const char *store, *line, *pty, *stream, *parity, *unit, *tool;
+    uint8_t unit_address, tool_address;
     unsigned long kind, rate, lose, repeat, spoil, seed, idle, silence, delay, gap;
     bool list, help;
 } settings;
@@ -56,10 +60,12 @@ static bool read_settings(int argc, char **argv, settings *s)
         {"silence", NULL, &s->silence, 10000, NULL}, {"delay", NULL, &s->delay, 60000, NULL}, {"gap", NULL, &s->gap, 1000, NULL},
         {"lose", NULL, &s->lose, 1000, NULL},    {"repeat", NULL, &s->repeat, 1000, NULL}, {"spoil", NULL, &s->spoil, 1000, NULL},
         {"seed", NULL, &s->seed, 0xFFFFFFFFUL, NULL}, {"idle", NULL, &s->idle, 86400, NULL}, {"help", NULL, NULL, 0, &s->help},
-        {"list", NULL, NULL, 0, &s->list},      {"stream", &s->stream, NULL, 0, NULL},
+        {"list", NULL, NULL, 0, &s->list},       {"stream", &s->stream, NULL, 0, NULL},    {"unit", &s->unit, NULL, 0, NULL},
+        {"tool", &s->tool, NULL, 0, NULL},
     };
     if (!options_read(argc, argv, options, sizeof options / sizeof *options, 0)) return false;
     if (s->help) return true;
+    if (!addresses_read(s->unit, s->tool, &s->unit_address, &s->tool_address)) return false;
     if (!s->store || !!s->line + !!s->pty + !!s->stream + s->list != 1) {
         fputs("--store and one of --line, --pty, --list and --stream are needed; --help says more\n", stderr);
         return false;
@@ -137,7 +143,8 @@ static int serve(line *l, uint8_t *state, const uint8_t *store, size_t store_len
         if (n <= 0) continue;
         heard++;
         size_t rate = tacho_unit_rate(state, TACHO_UNIT_STATE), phase = tacho_unit_phase(state, TACHO_UNIT_STATE);
-        tacho_written w = tacho_unit_step(state, TACHO_UNIT_STATE, store, store_len, string, (size_t)n, reply, sizeof reply);
+        tacho_written w = tacho_unit_step_at(s->unit_address, s->tool_address, state, TACHO_UNIT_STATE, store, store_len, string,
+                                             (size_t)n, reply, sizeof reply);
         if (w.number == TACHO_OK && !line_send(l, reply, w.len)) n = -1;
         size_t now = tacho_unit_rate(state, TACHO_UNIT_STATE);
         if (s->line && s->rate == RATE_FOLLOWED && now != rate && !line_set_baud(l, bauds[now]))
@@ -155,7 +162,7 @@ static int serve(line *l, uint8_t *state, const uint8_t *store, size_t store_len
 int main(int argc, char **argv)
 {
     settings s = {.parity = "even", .rate = RATE_FOLLOWED, .kind = 2, .seed = 1, .idle = 10,
-                  .silence = 25, .delay = 20};
+                  .silence = 25, .delay = 20, .unit_address = TACHO_UNIT_ADDRESS, .tool_address = TACHO_TOOL_ADDRESS};
     size_t store_len;
     uint8_t state[TACHO_UNIT_STATE];
     if (!read_settings(argc, argv, &s)) return 2;
@@ -171,7 +178,7 @@ int main(int argc, char **argv)
         free(store);
         return status;
     }
-    line l = {.fd = -1, .other = -1, .random = s.seed * 2 + 1};
+    line l = {.fd = -1, .other = -1, .unit_address = s.unit_address, .tool_address = s.tool_address, .random = s.seed * 2 + 1};
     l.faults = (line_faults){(unsigned)s.lose, (unsigned)s.repeat, (unsigned)s.spoil};
     l.times = (line_times){s.silence, s.gap, s.delay};
     int status = open_line(&l, &s) ? serve(&l, state, store, store_len, &s) : 2;

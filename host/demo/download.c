@@ -19,6 +19,9 @@ static const char help[] =
     "  --answers LIST   what to ask for, in this order: TREPs in hexadecimal, activities with any second of the day since 1970 (0 where\n"
     "                   none stands), as 00,31,32@129600,33,24,35; what is listed twice comes twice, a day by two of its seconds too\n"
     "  --out FILE       where the stream goes when all was downloaded: each answer as 76, TREP, data, back to back (DDP_034)\n"
+    "  --unit XX        the unit's address, two hexadecimal digits, with or without 0x in front (default EE)\n"
+    "  --tool XX        the tool's address (default F0)\n"
+    "                   Both programs must be given the same two addresses, and the two must differ.\n"
     "  --wait N         milliseconds until a reply begins (P2, at most 1,000; default 1000); 5,000 behind 'response pending' (P3)\n"
     "  --silence N      so many milliseconds without a byte end a string (P1 is at most 20; default 25: a byte takes over 1 by itself,\n"
     "                   and some adapters hand bytes on late)\n"
@@ -32,7 +35,7 @@ static const char help[] =
 /* The wait for a reply behind "response pending": P2 is then as long as P3 may be (DDP_019). */
 enum { PENDING_MS = 5000 };
 
-static line l = {.fd = -1, .other = -1};
+static line l = {.fd = -1, .other = -1, .unit_address = TACHO_UNIT_ADDRESS, .tool_address = TACHO_TOOL_ADDRESS};
 static uint8_t state[TACHO_TOOL_STATE], room[TACHO_ANSWER_MOST];
 static unsigned long wait_ms = 1000, tries = 1;
 
@@ -44,6 +47,24 @@ static size_t held(void)
 static size_t outcome(void)
 {
     return tacho_tool_outcome(state, sizeof state);
+}
+
+/* The calls of the tool at the line's addresses. */
+
+static tacho_written begin(uint8_t *tool, uint8_t request, uint8_t trep, uint32_t day, uint8_t *out)
+{
+    return tacho_tool_begin_at(l.unit_address, l.tool_address, tool, TACHO_TOOL_STATE, request, trep, day, out, TACHO_FRAME_MOST);
+}
+
+static tacho_written arrived(const uint8_t *string, size_t len, uint8_t *out)
+{
+    return tacho_tool_arrived_at(l.unit_address, l.tool_address, state, sizeof state, string, len, room, sizeof room, out,
+                                 TACHO_FRAME_MOST);
+}
+
+static tacho_written wait_ended(uint8_t *out)
+{
+    return tacho_tool_wait_ended_at(l.unit_address, l.tool_address, state, sizeof state, room, sizeof room, out, TACHO_FRAME_MOST);
 }
 
 static void progress(const char *what, bool end)
@@ -60,7 +81,7 @@ static void progress(const char *what, bool end)
 /* Whether the unit says that it has heard the request and its response is pending. */
 static bool is_pending(const uint8_t *string, size_t len)
 {
-    tacho_part data = tacho_frame_data(string, len, true);
+    tacho_part data = tacho_frame_data_at(l.unit_address, l.tool_address, string, len, true);
     return data.number == TACHO_OK && data.len == 3 && string[data.start] == 0x7F && string[data.start + 2] == 0x78;
 }
 
@@ -69,7 +90,7 @@ static bool run(uint8_t request, uint8_t trep, uint32_t day, const char *what)
 {
     uint8_t out[TACHO_FRAME_MOST], string[LINE_STRING_MOST];
     long end = 0;
-    tacho_written w = tacho_tool_begin(state, sizeof state, request, trep, day, out, sizeof out);
+    tacho_written w = begin(state, request, trep, day, out);
     while (w.number == TACHO_OK) {
         if (!line_send(&l, out, w.len)) break;
         if (outcome() != TACHO_OUTCOME_WAITING) return true;
@@ -79,8 +100,7 @@ static bool run(uint8_t request, uint8_t trep, uint32_t day, const char *what)
         int n = left > 0 ? line_receive(&l, string, sizeof string, (unsigned long)left, true) : 0;
         if (n < 0) break;
         if (n > 0 && is_pending(string, (size_t)n) && end < clock_now() + PENDING_MS) end = clock_now() + PENDING_MS;
-        if (n > 0) w = tacho_tool_arrived(state, sizeof state, string, (size_t)n, room, sizeof room, out, sizeof out);
-        else w = tacho_tool_wait_ended(state, sizeof state, room, sizeof room, out, sizeof out);
+        w = n > 0 ? arrived(string, (size_t)n, out) : wait_ended(out);
         progress(what, outcome() != TACHO_OUTCOME_WAITING);
     }
     if (w.number) fprintf(stderr, "%s: %s (%u)\n", what, tacho_number_text(w.number), w.number);
@@ -138,7 +158,7 @@ static bool dated(uint8_t trep)
 {
     uint8_t fresh[TACHO_TOOL_STATE], out[TACHO_FRAME_MOST];
     tacho_tool_fresh(fresh, sizeof fresh);
-    return tacho_tool_begin(fresh, sizeof fresh, TACHO_REQUEST_TRANSFER, trep, 0, out, sizeof out).len > 7;
+    return begin(fresh, TACHO_REQUEST_TRANSFER, trep, 0, out).len > 7;
 }
 
 /* Whether the list is one, and the table has all that it asks for; false with a message. */
@@ -153,7 +173,7 @@ static bool check_answers(const char *answers)
             return false;
         }
         tacho_tool_fresh(state, sizeof state);
-        tacho_written w = tacho_tool_begin(state, sizeof state, TACHO_REQUEST_TRANSFER, trep, day, out, sizeof out);
+        tacho_written w = begin(state, TACHO_REQUEST_TRANSFER, trep, day, out);
         if (w.number) {
             fprintf(stderr, "--answers: '%.*s': %s (%u)\n", (int)strcspn(from, ","), from, tacho_number_text(w.number), w.number);
             return false;
@@ -220,7 +240,7 @@ static int download(const char *answers)
 
 int main(int argc, char **argv)
 {
-    const char *line_path = NULL, *answers = NULL, *out_path = NULL, *parity = "even";
+    const char *line_path = NULL, *answers = NULL, *out_path = NULL, *parity = "even", *unit = NULL, *tool = NULL;
     unsigned long rate = 9600, lose = 0, repeat = 0, spoil = 0, seed = 2;
     line_times times = {25, 5, 10};
     bool wants_help = false;
@@ -230,9 +250,11 @@ int main(int argc, char **argv)
         {"silence", NULL, &times.silence, 10000, NULL}, {"rest", NULL, &times.rest, 60000, NULL}, {"gap", NULL, &times.gap, 1000, NULL},
         {"tries", NULL, &tries, 1000, NULL},   {"lose", NULL, &lose, 1000, NULL},            {"repeat", NULL, &repeat, 1000, NULL},
         {"spoil", NULL, &spoil, 1000, NULL},   {"seed", NULL, &seed, 0xFFFFFFFFUL, NULL},    {"help", NULL, NULL, 0, &wants_help},
+        {"unit", &unit, NULL, 0, NULL},        {"tool", &tool, NULL, 0, NULL},
     };
     if (!options_read(argc, argv, options, sizeof options / sizeof *options, 0)) return 2;
     if (wants_help) return help_said(help);
+    if (!addresses_read(unit, tool, &l.unit_address, &l.tool_address)) return 2;
     if (!line_path || !answers || !out_path) {
         fputs("--line, --answers and --out are needed; --help says more\n", stderr);
         return 2;

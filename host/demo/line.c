@@ -173,7 +173,8 @@ bool line_send(line *l, const uint8_t *frame, size_t len)
 static size_t good_at(const line *l, size_t at, bool at_tool)
 {
     size_t n = tacho_frame_length(l->bytes + at, l->count - at);
-    return n > 0 && n <= l->count - at && tacho_frame_check(l->bytes + at, n, at_tool) == 0 ? n : 0;
+    if (n == 0 || n > l->count - at) return 0;
+    return tacho_frame_check_at(l->unit_address, l->tool_address, l->bytes + at, n, at_tool) == TACHO_OK ? n : 0;
 }
 
 /* Whether what stands at the front can no longer become a good frame: it has come whole and is none. */

@@ -31,6 +31,7 @@ enum { LINE_STRING_MOST = 2 * TACHO_FRAME_MOST };
 
 typedef struct {
     int fd, other; /* the line, and the other end of a pseudo-terminal that was made here, kept open; -1 where there is none */
+    uint8_t unit_address, tool_address; /* of the two ends: a good frame has them */
     line_faults faults;
     line_times times;
     uint64_t random;

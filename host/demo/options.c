@@ -1,6 +1,7 @@
 #define _GNU_SOURCE
 #include "options.h"
 
+#include <ctype.h>
 #include <errno.h>
 #include <getopt.h>
 #include <stdio.h>
@@ -81,6 +82,25 @@ bool faults_check(unsigned long lose, unsigned long repeat, unsigned long spoil)
     if (lose + repeat + spoil <= 1000) return true;
     fputs("--lose, --repeat and --spoil are more than a thousand together\n", stderr);
     return false;
+}
+
+static bool address_read(const char *name, const char *text, unsigned char *address)
+{
+    if (!text) return true;
+    const char *digits = strncmp(text, "0x", 2) ? text : text + 2;
+    if (strlen(digits) != 2 || !isxdigit((unsigned char)digits[0]) || !isxdigit((unsigned char)digits[1])) {
+        fprintf(stderr, "--%s %s: wants an address of two hexadecimal digits\n", name, text);
+        return false;
+    }
+    *address = (unsigned char)strtoul(digits, NULL, 16);
+    return true;
+}
+
+bool addresses_read(const char *unit_text, const char *tool_text, unsigned char *unit, unsigned char *tool)
+{
+    if (!address_read("unit", unit_text, unit) || !address_read("tool", tool_text, tool)) return false;
+    if (*unit == *tool) fprintf(stderr, "the unit's and the tool's address must differ: both are %02X\n", *unit);
+    return *unit != *tool;
 }
 
 int help_said(const char *help)

@@ -20,6 +20,10 @@ bool options_read(int argc, char **argv, const program_option *options, size_t c
 /* Whether of a thousand frames so many can be lost, repeated and spoiled. False with a message. */
 bool faults_check(unsigned long lose, unsigned long repeat, unsigned long spoil);
 
+/* The two addresses of --unit and --tool: two hexadecimal digits each, with or without 0x; one without a text (NULL) stays as it is. False
+ * with a message where a text is none, or both are the same. */
+bool addresses_read(const char *unit_text, const char *tool_text, unsigned char *unit, unsigned char *tool);
+
 /* Puts the help out: the status. */
 int help_said(const char *help);
 

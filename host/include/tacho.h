@@ -28,14 +28,14 @@ _Static_assert(sizeof(size_t) == 8, "tacho.h is for 64-bit hosts");
 /* The version of this interface: the first number grows where a name, a layout or what was given for an input that was taken changes, the
  * second where calls are added or take what was refused before. */
 #define TACHO_VERSION_MAJOR 2
-#define TACHO_VERSION_MINOR 1
-#define TACHO_VERSION "2.1"
+#define TACHO_VERSION_MINOR 2
+#define TACHO_VERSION "2.2"
 
 /* Numbers: why a call is refused. No call gives 5; 13 to 17 say what makes bytes no bench store. */
 enum {
     TACHO_OK = 0,
     TACHO_FRAME_COUNT = 1,       /* a frame with a wrong count of bytes; data to write that is empty or over 255 bytes */
-    TACHO_FORMAT_OR_ADDRESS = 2, /* wrong first byte, or not from the other end to this one */
+    TACHO_FORMAT_OR_ADDRESS = 2, /* wrong first byte, or not from the other end to this one; two equal addresses given */
     TACHO_CHECKSUM = 3,          /* wrong checksum */
     TACHO_BUFFER_SHORT = 4,      /* the lent output or store buffer is too short */
     TACHO_NOT_HELD = 6,          /* the store does not hold the answer */
@@ -51,6 +51,9 @@ enum {
     TACHO_STORE_ANSWER = 16,     /* an answer's first two bytes are wrong, or its day: no multiple of 86,400, or not 0 outside activities */
     TACHO_STORE_TWICE = 17       /* the same TREP and day twice */
 };
+
+/* The lab's addresses of the two ends: those of every call without _at. */
+enum { TACHO_UNIT_ADDRESS = 0xEE, TACHO_TOOL_ADDRESS = 0xF0 };
 
 /* Kinds of unit. */
 enum { TACHO_KIND_GENERATION_1 = 0, TACHO_KIND_GENERATION_2_VERSION_1 = 1, TACHO_KIND_GENERATION_2_VERSION_2 = 2 };
@@ -232,6 +235,44 @@ size_t tacho_tool_outcome(const uint8_t *state, size_t state_len);
 size_t tacho_tool_code(const uint8_t *state, size_t state_len);
 size_t tacho_tool_expected(const uint8_t *state, size_t state_len);
 size_t tacho_tool_held(const uint8_t *state, size_t state_len);
+
+/* The calls at given addresses: each call that judges or writes a frame, with two parameters more, the first two. `unit` is the unit's
+ * address and `tool` the tool's, each any byte, whichever end calls: a frame to the unit begins 80 unit tool, one to the tool 80 tool unit,
+ * and the start is 81 unit tool 81 and its checksum. Packed states hold no addresses, so both ends must be given the same two at every
+ * call of one transfer. Two equal ones are refused by 2 before any other check. The parameters behind them, and all else, are those of the
+ * call without _at, which is this one at TACHO_UNIT_ADDRESS and TACHO_TOOL_ADDRESS. */
+
+/* 0 for a good frame between these two, else 2 (equal addresses), 1, 2 or 3. */
+uint8_t tacho_frame_check_at(uint8_t unit, uint8_t tool, const uint8_t *frame, size_t frame_len, bool at_tool);
+
+/* The data of a good frame between these two. Refused by 2 (equal addresses), 1, 2, 3. */
+tacho_part tacho_frame_data_at(uint8_t unit, uint8_t tool, const uint8_t *frame, size_t frame_len, bool at_tool);
+
+/* Writes the frame with this data and these addresses. Refused by 2 (equal addresses), 1, 4. */
+tacho_written tacho_frame_write_at(uint8_t unit, uint8_t tool, const uint8_t *data, size_t data_len, bool to_tool, uint8_t *out,
+                                   size_t out_len);
+
+/* Writes sub message `number` as a frame from this unit to this tool. Refused by 2 (equal addresses), 8, 10, 4. */
+tacho_written tacho_sub_message_at(uint8_t unit, uint8_t tool, const uint8_t *data, size_t data_len, uint8_t trep, uint16_t number,
+                                   uint8_t *out, size_t out_len);
+
+/* The unit with this address hears a frame, and replies to this tool. Refused by 2 (equal addresses), 13 to 17, 11, 4, 1, 2, 3. */
+tacho_written tacho_unit_step_at(uint8_t unit, uint8_t tool, uint8_t *state, size_t state_len, const uint8_t *store, size_t store_len,
+                                 const uint8_t *frame, size_t frame_len, uint8_t *reply, size_t reply_len);
+
+/* Begins a request to this unit. Refused by 2 (equal addresses), 12, 11, 4. */
+tacho_written tacho_tool_begin_at(uint8_t unit, uint8_t tool, uint8_t *state, size_t state_len, uint8_t request, uint8_t trep,
+                                  uint32_t day, uint8_t *out, size_t out_len);
+
+/* A frame arrived at the tool with this address. One with other addresses is a frame that is not good: a wait that failed. Two equal
+ * addresses refuse the call: no wait has failed, and no sending is counted. Refused by 2 (equal addresses), 11, 4. */
+tacho_written tacho_tool_arrived_at(uint8_t unit, uint8_t tool, uint8_t *state, size_t state_len, const uint8_t *frame, size_t frame_len,
+                                    uint8_t *room, size_t room_len, uint8_t *out, size_t out_len);
+
+/* The wait for a frame from this unit ended. Two equal addresses refuse the call here too: no wait has failed. Refused by 2 (equal
+ * addresses), 11, 4. */
+tacho_written tacho_tool_wait_ended_at(uint8_t unit, uint8_t tool, uint8_t *state, size_t state_len, const uint8_t *room, size_t room_len,
+                                       uint8_t *out, size_t out_len);
 
 /* In words: a number of the list above, a wire code, the transfer type of a TREP. Never NULL. */
 const char *tacho_number_text(uint8_t number);

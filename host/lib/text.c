@@ -6,7 +6,7 @@ const char *tacho_number_text(uint8_t number)
     switch (number) {
     case TACHO_OK: return "not refused";
     case TACHO_FRAME_COUNT: return "wrong count of bytes in a frame";
-    case TACHO_FORMAT_OR_ADDRESS: return "wrong format or address in a frame";
+    case TACHO_FORMAT_OR_ADDRESS: return "wrong format or address in a frame, or two equal addresses";
     case TACHO_CHECKSUM: return "wrong checksum in a frame";
     case TACHO_BUFFER_SHORT: return "a lent buffer is too short";
     case TACHO_NOT_HELD: return "the answer is not held";

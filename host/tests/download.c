@@ -2,10 +2,12 @@
  * One transfer between both ends over random lines, with the book of document 01 beside it (The line and the book):
  * after every event the tool waits or has ended as the book has, and holds 76, TREP and the data of the frames that the
  * book has taken; the rest of the room and of the tool's state is as document 01 says too. Activities are stored and
- * asked for by seconds of one day that are mostly not the same (document 02, Req 03).
+ * asked for by seconds of one day that are mostly not the same (document 02, Req 03). Both ends are given the lab's
+ * addresses, EE and FB, or any two that differ; frames with others come too, and calls at two equal ones (Req 05).
  *
  *   download [TRANSFERS [SEED]]
  */
+#include "readdressed.h"
 #include "reference.h"
 #include "support.h"
 
@@ -32,13 +34,15 @@ static size_t store_len, answer_len, room_len, q;
 static string frames[FRAMES + 1];
 static uint8_t trep;
 static uint32_t day; /* the second that the tool asks for */
+static addresses at; /* given to both ends at every call */
+static bool suffixless; /* at the lab's addresses: the calls without _at */
 
 /* Both ends, the line, the book (p and f) and what is counted. */
 static uint8_t unit[TACHO_UNIT_STATE], tool[TACHO_TOOL_STATE];
 static queue to_unit, to_tool;
 static size_t p, put_out, put_out_before, arrivals;
 static unsigned f;
-static unsigned long events, done, gave_up;
+static unsigned long events, done, gave_up, elsewhere;
 
 static void push(queue *line, const uint8_t *bytes, size_t len)
 {
@@ -54,6 +58,45 @@ static void take(queue *line, size_t i)
     line->count--;
 }
 
+/* The calls of both ends on the transfer's states. Addresses other than the transfer's need the call with _at. */
+
+static bool plain(addresses a)
+{
+    return suffixless && same_addresses(a, at);
+}
+
+static tacho_written begin(addresses a, uint8_t request, uint8_t of, uint32_t second, uint8_t *out, size_t out_len)
+{
+    if (plain(a)) return tacho_tool_begin(tool, sizeof tool, request, of, second, out, out_len);
+    return tacho_tool_begin_at(a.unit, a.tool, tool, sizeof tool, request, of, second, out, out_len);
+}
+
+static tacho_written arrived(addresses a, const string *s, uint8_t *out, size_t out_len)
+{
+    if (plain(a)) return tacho_tool_arrived(tool, sizeof tool, s->bytes, s->len, room, room_len, out, out_len);
+    return tacho_tool_arrived_at(a.unit, a.tool, tool, sizeof tool, s->bytes, s->len, room, room_len, out, out_len);
+}
+
+static tacho_written wait_ended(addresses a, uint8_t *out, size_t out_len)
+{
+    if (plain(a)) return tacho_tool_wait_ended(tool, sizeof tool, room, room_len, out, out_len);
+    return tacho_tool_wait_ended_at(a.unit, a.tool, tool, sizeof tool, room, room_len, out, out_len);
+}
+
+static tacho_written step(addresses a, const string *s, uint8_t *reply, size_t reply_len)
+{
+    if (plain(a)) return tacho_unit_step(unit, sizeof unit, store, store_len, s->bytes, s->len, reply, reply_len);
+    return tacho_unit_step_at(a.unit, a.tool, unit, sizeof unit, store, store_len, s->bytes, s->len, reply, reply_len);
+}
+
+static void choose_addresses(void)
+{
+    uint32_t kind = random_below(4);
+    at = kind < 2 ? LAB : kind == 2 ? (addresses){REF_UNIT_ADDRESS, 0xFB} : different_addresses();
+    suffixless = kind == 0;
+    elsewhere += !is_lab(at);
+}
+
 static void choose_answer(void)
 {
     static const uint8_t treps[] = {0x31, 0x32, 0x33, 0x24, 0x35, 0x00};
@@ -66,8 +109,8 @@ static void choose_answer(void)
     answer[1] = trep;
     q = ref_sub_messages(answer_len - 2).count;
     for (size_t k = 1; k <= q; k++)
-        frames[k].len = ref_sub_message(answer + 2, answer_len - 2, trep, (uint16_t)k, frames[k].bytes,
-                                        TACHO_FRAME_MOST).len;
+        frames[k].len = ref_sub_message_at(at.unit, at.tool, answer + 2, answer_len - 2, trep, (uint16_t)k, frames[k].bytes,
+                                           TACHO_FRAME_MOST).len;
 }
 
 /* The unit holds the answer, and where there is place another one that it may be sending at the begin. */
@@ -99,6 +142,7 @@ static void set_up_unit(void)
 static void set_up(void)
 {
     uint8_t out[TACHO_FRAME_MOST];
+    choose_addresses();
     choose_answer();
     set_up_unit();
     room_len = random_below(2) ? ROOM : answer_len;
@@ -108,7 +152,7 @@ static void set_up(void)
     p = put_out_before = arrivals = 0;
     f = 0;
     tacho_tool_fresh(tool, sizeof tool);
-    tacho_written w = tacho_tool_begin(tool, sizeof tool, TACHO_REQUEST_TRANSFER, trep, day, out, sizeof out);
+    tacho_written w = begin(at, TACHO_REQUEST_TRANSFER, trep, day, out, sizeof out);
     if (w.number) fail("the begin is refused by %u", w.number);
     push(&to_unit, out, w.len);
     put_out = w.len > 0;
@@ -183,7 +227,7 @@ static void book_arrival(const string *s)
         f = 0;
         /* the last frame begins no wait */
         if (p < q) put_out_before = put_out;
-    } else if (ref_frame_check(s->bytes, s->len, true)) {
+    } else if (ref_frame_check_at(at.unit, at.tool, s->bytes, s->len, true)) {
         book_failed();
     }
 }
@@ -194,7 +238,7 @@ static void at_unit(size_t reply_len)
     if (to_unit.count == 0) return;
     string s = to_unit.at[0];
     take(&to_unit, 0);
-    tacho_written w = tacho_unit_step(unit, sizeof unit, store, store_len, s.bytes, s.len, reply, reply_len);
+    tacho_written w = step(at, &s, reply, reply_len);
     push(&to_tool, reply, w.number ? 0 : w.len);
 }
 
@@ -216,7 +260,7 @@ static void at_tool(void)
     take(&to_tool, 0);
     arrivals++;
     book_arrival(&s);
-    from_tool(tacho_tool_arrived(tool, sizeof tool, s.bytes, s.len, room, room_len, out, sizeof out), out, was_ended);
+    from_tool(arrived(at, &s, out, sizeof out), out, was_ended);
 }
 
 static void wait_ends(void)
@@ -224,7 +268,7 @@ static void wait_ends(void)
     uint8_t out[TACHO_FRAME_MOST];
     bool was_ended = ended();
     book_failed();
-    from_tool(tacho_tool_wait_ended(tool, sizeof tool, room, room_len, out, sizeof out), out, was_ended);
+    from_tool(wait_ended(at, out, sizeof out), out, was_ended);
 }
 
 /* Too short an output refuses a begin in every state; a tool that waits says first that it is out of turn. The request
@@ -234,16 +278,42 @@ static void begin_refused(void)
     uint8_t out[TACHO_FRAME_MOST], request = random_below(2) ? TACHO_REQUEST_TRANSFER : TACHO_REQUEST_STOP;
     uint8_t other = request == TACHO_REQUEST_TRANSFER ? 0x01 : 0;
     unsigned wanted = ended() ? TACHO_BUFFER_SHORT : TACHO_OUT_OF_TURN;
-    tacho_written w = tacho_tool_begin(tool, sizeof tool, request, other, 0, out, TACHO_FRAME_MOST - 1);
+    tacho_written w = begin(at, request, other, 0, out, TACHO_FRAME_MOST - 1);
     if (w.number != wanted) fail("a begin with a short output gave %u, wanted %u", w.number, wanted);
 }
 
+/* Two equal addresses refuse every call of both ends, in every state: neither states nor output change, and no sending is counted. */
+static void equal_refused(void)
+{
+    uint8_t out[TACHO_FRAME_MOST], tool_before[sizeof tool], unit_before[sizeof unit];
+    memset(out, 0xA5, sizeof out);
+    addresses both = {at.unit, at.unit};
+    const string *s = to_tool.count ? &to_tool.at[0] : &frames[1];
+    memcpy(tool_before, tool, sizeof tool);
+    memcpy(unit_before, unit, sizeof unit);
+    const tacho_written gave[] = {
+        begin(both, TACHO_REQUEST_STOP, 0, 0, out, sizeof out), arrived(both, s, out, sizeof out), wait_ended(both, out, sizeof out),
+        step(both, to_unit.count ? &to_unit.at[0] : s, out, sizeof out),
+    };
+    for (size_t k = 0; k < sizeof gave / sizeof *gave; k++)
+        if (gave[k].number != TACHO_FORMAT_OR_ADDRESS || gave[k].len) fail("call %zu at two equal addresses gave %u", k, gave[k].number);
+    if (memcmp(tool_before, tool, sizeof tool) || memcmp(unit_before, unit, sizeof unit))
+        fail("a call at two equal addresses changed a state");
+    for (size_t i = 0; i < sizeof out; i++)
+        if (out[i] != 0xA5) fail("a call at two equal addresses wrote byte %zu of its output", i);
+}
+
+/* The string becomes one that is refused: bytes change or are cut off, or it gets other addresses and a checksum that is right. */
 static void spoil(string *s, bool at_tool_end)
 {
     do {
+        if (random_below(4) == 0) {
+            readdress(s->bytes, s->len, other_addresses(at), at_tool_end);
+            continue;
+        }
         s->bytes[random_below((uint32_t)s->len)] ^= (uint8_t)(1 + random_below(255));
         if (random_below(4) == 0 && s->len > 1) s->len--;
-    } while (ref_frame_check(s->bytes, s->len, at_tool_end) == 0);
+    } while (ref_frame_check_at(at.unit, at.tool, s->bytes, s->len, at_tool_end) == 0);
 }
 
 static void line_changes(void)
@@ -268,11 +338,11 @@ static void bad_line(void)
     uint32_t badness = random_below(12);
     set_up();
     check();
-    for (size_t step = 0; step < 40 * q + 200 && (!ended() || random_below(20)); step++) {
+    for (size_t i = 0; i < 40 * q + 200 && (!ended() || random_below(20)); i++) {
         uint32_t event = random_below(24);
         if (to_unit.count + to_tool.count == 0 || (event < badness && random_below(6) == 0)) wait_ends();
         else if (event < badness) line_changes();
-        else if (event == 23) begin_refused();
+        else if (event == 23) random_below(2) ? begin_refused() : equal_refused();
         else if (event % 2) at_unit(random_below(30) ? TACHO_FRAME_MOST : random_below(TACHO_FRAME_MOST));
         else at_tool();
         check();
@@ -308,7 +378,8 @@ int main(int argc, char **argv)
         clean_line();
     }
     if (done == 0 || gave_up == 0) fail("%lu transfers done and %lu given up: the lines are all alike", done, gave_up);
-    printf("download: %lu transfers over bad lines (%lu done, %lu given up), %lu over clean ones, "
-           "%lu events as the book says\n", transfers, done, gave_up, transfers, events);
+    if (elsewhere == 0 || elsewhere == 2 * transfers) fail("%lu of %lu transfers are not at the lab's addresses", elsewhere, 2 * transfers);
+    printf("download: %lu transfers over bad lines (%lu done, %lu given up), %lu over clean ones, %lu of both not at the lab's addresses, "
+           "%lu events as the book says\n", transfers, done, gave_up, transfers, elsewhere, events);
     return 0;
 }

@@ -1,6 +1,7 @@
 /*
  * The strings that line_receive makes of bytes that come as on a real serial line: singly, in clumps, with gaps, after a long wait, broken,
- * cut off, two at once. A process of its own writes them to the other end of a pseudo-terminal.
+ * cut off, two at once. A process of its own writes them to the other end of a pseudo-terminal. Those that are told apart by what is a good
+ * frame come at other addresses than the lab's too.
  */
 #define _GNU_SOURCE
 #include "clock.h"
@@ -60,8 +61,8 @@ static void make_frames(void)
     uint8_t data[255];
     for (size_t i = 0; i < sizeof data; i++) data[i] = (uint8_t)(i * 3);
     data[0] = 0x76;
-    full_len = tacho_frame_write(data, sizeof data, true, full, sizeof full).len;
-    reply_len = tacho_frame_write((const uint8_t[]){0x50, 0x81}, 2, true, reply, sizeof reply).len;
+    full_len = tacho_frame_write_at(l.unit_address, l.tool_address, data, sizeof data, true, full, sizeof full).len;
+    reply_len = tacho_frame_write_at(l.unit_address, l.tool_address, (const uint8_t[]){0x50, 0x81}, 2, true, reply, sizeof reply).len;
 }
 
 static void one(const char *what, script s)
@@ -112,16 +113,32 @@ static void broken_strings(void)
     one("a peer that stops mid-frame", (script){full, 100, 100, 0, 0});
 }
 
+/* Where one string ends and the next begins follows from which frames are good: those with the line's two addresses. */
+static void strings_told_apart(uint8_t unit_address, uint8_t tool_address)
+{
+    uint8_t others[TACHO_FRAME_MOST];
+    l.unit_address = unit_address;
+    l.tool_address = tool_address;
+    make_frames();
+    two("two frames in one read", reply, reply_len, full, full_len, sizeof bytes);
+    broken_strings();
+    memcpy(others, full, full_len);
+    others[1]++;
+    others[full_len - 1]++;
+    two("a frame with another address before a good one", others, full_len, reply, reply_len, 64);
+}
+
 int main(void)
 {
-    l = (line){.fd = -1, .other = -1, .times = {25, 0, 0}};
+    l = (line){.fd = -1, .other = -1, .unit_address = TACHO_UNIT_ADDRESS, .tool_address = TACHO_TOOL_ADDRESS, .times = {25, 0, 0}};
     if (!line_make(&l, path, sizeof path)) return 1;
     make_frames();
     one("a frame in 260 reads", (script){full, full_len, 1, 2, 0});
     one("a frame in clumps with gaps of 20 ms", (script){full, full_len, 37, 20, 0});
     one("a reply after 900 ms", (script){reply, reply_len, reply_len, 0, 900});
-    two("two frames in one read", reply, reply_len, full, full_len, sizeof bytes);
-    broken_strings();
+    strings_told_apart(TACHO_UNIT_ADDRESS, TACHO_TOOL_ADDRESS);
+    strings_told_apart(TACHO_UNIT_ADDRESS, 0xFB);
+    strings_told_apart(0x81, 0x80); /* bytes that begin a frame */
     comes("nothing", NULL, 0, 20);
     /* the line is gone */
     close(l.other);

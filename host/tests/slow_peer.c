@@ -144,7 +144,8 @@ static bool is_set(const char *baud)
 static int rate(int count, char **rates)
 {
     static uint8_t frame[300];
-    const uint8_t start[] = {0x81, 0xEE, 0xF0, 0x81, 0xE0};
+    uint8_t start[] = {0x81, REF_UNIT_ADDRESS, REF_TOOL_ADDRESS, 0x81, 0};
+    start[4] = ref_checksum(start, 4);
     size_t heard = 0;
     /* what comes before the unit has opened its port is dropped, so the start is sent up to three times */
     clock_pause(300);

@@ -1,6 +1,7 @@
 // What a string that arrives means to a waiting tool.
 use crate::Arrival;
 use crate::Meaning;
+use frame::Addresses;
 use frame::End;
 use octets::wire::NEGATIVE;
 use octets::wire::RESPONSE_PENDING;
@@ -9,7 +10,6 @@ use split::Received;
 ghost use mathlib.Core.Path.{_≡_};
 ghost use mathlib.Core.Bool.{cond};
 ghost use lib.ListN.{length};
-ghost use Rattle.frame.specs.Frame.{lab};
 ghost use Rattle.arrival.specs.Meaning.{newBytes, receivedBy, meaningOf, takes};
 ghost use Rattle.arrival.specs.Meaning.{isRefusal, refusalMeaning, dataMeaning, arrivalOf};
 
@@ -100,13 +100,13 @@ pub fn takes(meaning: Meaning) -> bool
     }
 }
 
-// A string that arrives, with a room of this length: it is judged once.
+// A string that arrives, with a room of this length, for any two addresses: it is judged once.
 // One that the frame rules refuse is a failed wait.
-pub fn arrival_of(state: ToolState, frame: &[u8], room_len: usize) -> Arrival
-    ensures { λ r. ⌜ r ≡ arrivalOf lab «room_len» state (now (frame .entry)) ⌝ }
+pub fn arrival_of(addresses: Addresses, state: ToolState, frame: &[u8], room_len: usize) -> Arrival
+    ensures { λ r. ⌜ r ≡ arrivalOf addresses «room_len» state (now (frame .entry)) ⌝ }
 {
     let expected = state.expected;
-    let place = frame::check::locate(frame, End::Tool);
+    let place = frame::check::locate(addresses, frame, End::Tool);
     let data = octets::buffer::part(frame, place);
     let received = split::join::receive(data, state.name.trep, expected);
     let new = crate::room::new_length(state, received, data);

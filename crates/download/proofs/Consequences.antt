@@ -7,6 +7,7 @@ use lib.ListN.{length, getD}
 use Rattle.frame.specs.declared.Addresses.{Addresses}
 use Rattle.frame.specs.declared.End.the-variants as ends
 use Rattle.frame.specs.Frame.{dataOf}
+use Rattle.frame.proofs.GivenLaws.{different-ones}
 use Rattle.split.specs.Codes.{sub}
 use Rattle.split.specs.Split.{isSplit, subField}
 use Rattle.split.proofs.Theorems.{sub-reads-back}
@@ -24,7 +25,7 @@ use Rattle.line.specs.Claims.{Within, noNumber, isNumber, Every, unnumbered}
 use Rattle.line.proofs.Cases.{never}
 use Rattle.line.proofs.Laws.{after-allowed}
 use Rattle.download.specs.CableEnds.{cableEnds, refused}
-use Rattle.download.specs.Demand.{Premises, SendingUnchanged, CallPremise, answerData, transfer, outcomeOf}
+use Rattle.download.specs.Demand.{Premises, SendingUnchanged, StorePremise, answerData, transfer, outcomeOf}
 use Rattle.download.proofs.ServiceFacts.{ranges, sending-held}
 use Rattle.download.proofs.UnitFacts.{unitAfter}
 use Rattle.download.proofs.Theorem.{facts, demand3}
@@ -34,18 +35,18 @@ every-map f [] t = tt
 every-map f (x ∷ xs) t = (f x (t .0), every-map f xs (t .1))
 
 -- The strings on the way to the tool
-module _ (a : Addresses) (g : Premises) (es : List (Event (cableEnds a)))
-    (o : AllAllowed (cableEnds a) (transfer a g) es (start (cableEnds a) (transfer a g) .system)) where
-  abbrev after : Run (cableEnds a)
-  after = run (cableEnds a) (transfer a g) es (start (cableEnds a) (transfer a g))
+module _ (a : Addresses) (n : a .unit ≡ a .tool → ⊥) (g : Premises) (es : List (Event cableEnds))
+    (o : AllAllowed cableEnds (transfer a g) es (start cableEnds (transfer a g) .system)) where
+  abbrev after : Run cableEnds
+  after = run cableEnds (transfer a g) es (start cableEnds (transfer a g))
 
   -- Numbers above the expected one, p + 1, never arrive: what the tool's frame rules let pass is one of the frames 1 to p + 1.
-  pub none-above : Every (Within (unnumbered (cableEnds a) (transfer a g)) (transfer a g .frame) 1 (suc (after .book .taken))) (after .system .toTool)
-  none-above = after-allowed (cableEnds a) (transfer a g) (facts a g) es o .noneAbove
+  pub none-above : Every (Within (unnumbered cableEnds (transfer a g)) (transfer a g .frame) 1 (suc (after .book .taken))) (after .system .toTool)
+  none-above = after-allowed cableEnds (transfer a g) (facts a (different-ones a n) g) es o .noneAbove
 
   -- The unit never answers these requests by 12, 22 or FA: all that it replies joins this queue, and what passes the frame rules there begins with 76, not with
   -- 7F.
-  begins-76 : (x : List ℕ) → Within (unnumbered (cableEnds a) (transfer a g)) (transfer a g .frame) 1 (suc (after .book .taken)) x → refused a toolEnd x ≡ false
+  begins-76 : (x : List ℕ) → Within (unnumbered cableEnds (transfer a g)) (transfer a g .frame) 1 (suc (after .book .taken)) x → refused a toolEnd x ≡ false
       → getD (dataOf a ends.Tool x) 0 0 ≡ 0x76
   unfolding subField
   begins-76 x (noNumber r) i = never (cc (rw i at r))
@@ -62,7 +63,7 @@ module _ (a : Addresses) (g : Premises) (es : List (Event (cableEnds a)))
   no-code books.heldOff code e = never (cc)
 
   pub never-refused : (code : ℕ) → after .system .tool .state .outcome ≡ Refused code → ⊥
-  never-refused code e = no-code (after .book .outcome) code (sym (demand3 a g es .allowed o .outcome) ∙ e)
+  never-refused code e = no-code (after .book .outcome) code (sym (demand3 a n g es .allowed o .outcome) ∙ e)
 
   room-left : (b : books.Outcome) → outcomeOf b ≡ NoRoom → ⊥
   room-left books.waiting e = never (cc)
@@ -71,7 +72,7 @@ module _ (a : Addresses) (g : Premises) (es : List (Event (cableEnds a)))
   room-left books.heldOff e = never (cc)
 
   pub never-no-room : after .system .tool .state .outcome ≡ NoRoom → ⊥
-  never-no-room e = room-left (after .book .outcome) (sym (demand3 a g es .allowed o .outcome) ∙ e)
+  never-no-room e = room-left (after .book .outcome) (sym (demand3 a n g es .allowed o .outcome) ∙ e)
 
 -- A store that stays as it is meets the premise at every call, in each state that the unit comes to.
 module _ (g : Premises) where
@@ -86,6 +87,6 @@ module _ (g : Premises) where
   while-sending k true = record { held = g .holds .held; bytes = refl }
   while-sending k false = tt
 
-  pub steady : (n reply : ℕ) → CallPremise g (unitAfter g n) (record { store = g .store; reply = reply })
-  steady zero reply = record { this = g .holds; sending = at-begin (g .unit .phase) (ranges (g .store) (g .unit) (g .possible) .phase) }
-  steady (suc k) reply = record { this = g .holds; sending = while-sending (suc k) (isSplit (length (answerData g))) }
+  pub steady : (n : ℕ) → StorePremise g (unitAfter g n) (g .store)
+  steady zero = record { this = g .holds; sending = at-begin (g .unit .phase) (ranges (g .store) (g .unit) (g .possible) .phase) }
+  steady (suc k) = record { this = g .holds; sending = while-sending (suc k) (isSplit (length (answerData g))) }

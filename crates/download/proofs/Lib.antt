@@ -1,3 +1,4 @@
+pub mod AtDifferent
 pub mod StoreFacts
 pub mod FrameFacts
 pub mod ServiceFacts
@@ -9,5 +10,6 @@ pub mod Runs
 pub mod Witness
 pub mod TradeCases
 pub mod DayCases
+pub mod AddressCases
 pub mod Consequences
 pub mod Needed

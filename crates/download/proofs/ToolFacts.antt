@@ -39,8 +39,9 @@ use Rattle.tool.specs.After.{stateAfter, sentAfter, roomAfter}
 use Rattle.tool.specs.Call.{eventNumber, eventState, eventSent, eventRoom, eventResult}
 use Rattle.line.specs.Line.{Result, silent, sends, toolEnd}
 use Rattle.line.proofs.Cases.{byTest}
-use Rattle.download.specs.CableEnds.{ToolRoom, strings, toolArrival, toolWaitEnd, refused}
+use Rattle.download.specs.CableEnds.{ToolRoom, strings, refused}
 use Rattle.download.specs.Demand.{Premises, answerData, heldWith, transfer}
+use Rattle.download.proofs.AtDifferent.{toolArrival, toolWaitEnd}
 use Rattle.download.proofs.FrameFacts as frames
 use Rattle.download.proofs.UnitFacts.{name-allowed}
 

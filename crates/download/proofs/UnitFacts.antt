@@ -36,8 +36,9 @@ use Rattle.requests.specs.Sent.{acknowledgement, transferData, frameSent}
 use Rattle.tool.specs.Call.{requestNumber, beginNumber}
 use Rattle.line.specs.Line.{Result, silent, sends, unitEnd}
 use Rattle.line.proofs.Cases.{byTest}
-use Rattle.download.specs.CableEnds.{UnitGiven, strings, unitCall, refused}
-use Rattle.download.specs.Demand.{SendingUnchanged, Premises, CallPremise, answerData, transfer}
+use Rattle.download.specs.CableEnds.{UnitGiven, strings, refused}
+use Rattle.download.specs.Demand.{SendingUnchanged, Premises, StorePremise, answerData, transfer}
+use Rattle.download.proofs.AtDifferent.{unitCall}
 use Rattle.download.proofs.StoreFacts.{Held, held-place, held}
 use Rattle.download.proofs.FrameFacts.{strings-frame, asked-some, asked-most, asked-good, splits, frames-most}
 use Rattle.download.proofs.ServiceFacts.{ranges, sending-held, granted-open, request-first, request-more, asked-first, transfer-asked, sent-again}
@@ -133,37 +134,38 @@ module _ (g : Premises) where
   phase-after zero k = refl
   phase-after (suc n) k = refl
 
-  module _ (c : UnitGiven) where
-    sent-possible : (k : ℕ) → Held (c .store) (g .name) (g .answer) → suc k ≤ countOf (length (answerData g)) → (b : Bool) → isSplit (length (answerData g)) ≡ b
-        → phasePossible (placeSent (c .store) (cond b (Sending (g .name) (sub (suc k))) Granted)) (cond b (Sending (g .name) (sub (suc k))) Granted) ≡ true
+  module _ (s : List ℕ) where
+    sent-possible : (k : ℕ) → Held s (g .name) (g .answer) → suc k ≤ countOf (length (answerData g)) → (b : Bool) → isSplit (length (answerData g)) ≡ b
+        → phasePossible (placeSent s (cond b (Sending (g .name) (sub (suc k))) Granted)) (cond b (Sending (g .name) (sub (suc k))) Granted) ≡ true
     unfolding phasePossible sendable
     sent-possible k t h false e = refl
     sent-possible k t h true e =
-        let n : lookupPlace narrow (g .name) (c .store) .len - 2 ≡ length (answerData g) = rw (t .len) (sym (length-drop 2 (g .answer))) in
+        let n : lookupPlace narrow (g .name) s .len - 2 ≡ length (answerData g) = rw (t .len) (sym (length-drop 2 (g .answer))) in
         rw (t .number, n, e, le-leb 1 (suc k) (omega arith), le-leb (suc k) (countOf (length (answerData g))) h)
 
-    possible-after : (n : ℕ) → CallPremise g (unitAfter n) c → n ≤ countOf (length (answerData g)) → possible (c .store) (unitAfter n) ≡ true
+    possible-after : (n : ℕ) → StorePremise g (unitAfter n) s → n ≤ countOf (length (answerData g)) → possible s (unitAfter n) ≡ true
     unfolding possible possibleAt
     possible-after zero o h =
-        rw (sending-possible (g .store) (c .store) (g .unit .phase) (o .sending) (ranges (g .store) (g .unit) (g .possible) .phase))
+        rw (sending-possible (g .store) s (g .unit .phase) (o .sending) (ranges (g .store) (g .unit) (g .possible) .phase))
         (rw (ranges (g .store) (g .unit) (g .possible) .phase) at (g .possible))
     possible-after (suc k) o h =
         rw (ranges (g .store) (g .unit) (g .possible) .kind, ranges (g .store) (g .unit) (g .possible) .rate)
-        (sent-possible k (held (c .store) (g .name) (g .answer) (o .this)) h (isSplit (length (answerData g))) refl)
+        (sent-possible k (held s (g .name) (g .answer) (o .this)) h (isSplit (length (answerData g))) refl)
 
-    module _ (a : Addresses) (n : ℕ) (o : CallPremise g (unitAfter n) c) (h : n ≤ countOf (length (answerData g))) where
+  module _ (c : UnitGiven) where
+    module _ (a : Addresses) (n : ℕ) (o : StorePremise g (unitAfter n) (c .store)) (h : n ≤ countOf (length (answerData g))) where
       whole : storeNumber narrow (c .store) ≡ 0
       unfolding lookupNumber
       whole = or-zero (storeNumber narrow (c .store)) _ (o .this .held) .first
 
       -- without room for a reply nothing changes
       pub lacks-room : (b : List ℕ) → leb 260 (c .reply) ≡ false → unitCall a c (unitAfter n) b ≡ silent (unitAfter n)
-      lacks-room b l = called-short a c (unitAfter n) b whole (possible-after n o h) l
+      lacks-room b l = called-short a c (unitAfter n) b whole (possible-after (c .store) n o h) l
 
       -- nor at a string that the frame rules refuse
       pub refuses : (b : List ℕ) → refused a unitEnd b ≡ true → unitCall a c (unitAfter n) b ≡ silent (unitAfter n)
       refuses b r =
-          byTest (leb 260 (c .reply)) (λ l. called-refused a c (unitAfter n) b whole (possible-after n o h) l (not-true _ r)) (λ l. lacks-room b l)
+          byTest (leb 260 (c .reply)) (λ l. called-refused a c (unitAfter n) b whole (possible-after (c .store) n o h) l (not-true _ r)) (λ l. lacks-room b l)
 
       -- a request at which the answer is sent
       asked : (k : ℕ) → leb 260 (c .reply) ≡ true
@@ -172,14 +174,15 @@ module _ (g : Premises) where
           → unitCall a c (unitAfter n) (frameSent a requests.Transfer (g .name) (suc k)) ≡ sends (unitAfter (suc k)) (transfer a g .frame (suc k))
       unfolding frameSent
       asked k l e =
-          called a c (unitAfter n) _ _ (not-refused a (c .store) (unitAfter n) (c .reply) _ whole (possible-after n o h) l (asked-good a (g .name) (suc k)))
+          called a c (unitAfter n) _ _
+          (not-refused a (c .store) (unitAfter n) (c .reply) _ whole (possible-after (c .store) n o h) l (asked-good a (g .name) (suc k)))
           (heard a (c .store) (unitAfter n) (transferData (g .name) (suc k)) (asked-some (g .name) (suc k)) (asked-most (g .name) (suc k))
           (granted-open (unitAfter n .phase) (granted-after n)) ∙ e)
           ∙ sent a c (unitAfter n) (g .name) (suc k) (g .answer) (held (c .store) (g .name) (g .answer) (o .this))
           ∙ ap (λ (u : UnitState). sends u (transfer a g .frame (suc k))) (phase-after n k)
 
     -- asked for the number last sent or the next one, the unit sends that frame
-    pub answers : (a : Addresses) (n k : ℕ) → CallPremise g (unitAfter n) c → leb 260 (c .reply) ≡ true → n ≤ suc k → k ≤ n
+    pub answers : (a : Addresses) (n k : ℕ) → StorePremise g (unitAfter n) (c .store) → leb 260 (c .reply) ≡ true → n ≤ suc k → k ≤ n
         → suc k ≤ countOf (length (answerData g))
         → unitCall a c (unitAfter n) (frameSent a requests.Transfer (g .name) (suc k)) ≡ sends (unitAfter (suc k)) (transfer a g .frame (suc k))
     unfolding answerFrom
@@ -212,7 +215,7 @@ module _ (g : Premises) where
             rw z (sent-next (lookupPlace narrow (g .name) (c .store)) (g .name) (suc k) (omega (arith, frames-most g)) (rw len h))))
 
   -- with the store of the begin it stays possible
-  this-store : (n : ℕ) → CallPremise g (unitAfter n) (record { store = g .store; reply = 0 })
+  this-store : (n : ℕ) → StorePremise g (unitAfter n) (g .store)
   this-store zero = record { this = g .holds; sending = sending-same (g .store) (g .unit .phase) (ranges (g .store) (g .unit) (g .possible) .phase) }
   this-store (suc k) = record { this = g .holds; sending = go (isSplit (length (answerData g))) }
     where
@@ -221,4 +224,4 @@ module _ (g : Premises) where
       go false = tt
 
   pub possible-before : (n : ℕ) → n ≤ countOf (length (answerData g)) → possible (g .store) (unitAfter n) ≡ true
-  possible-before n h = possible-after (record { store = g .store; reply = 0 }) n (this-store n) h
+  possible-before n h = possible-after (g .store) n (this-store n) h

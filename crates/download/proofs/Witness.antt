@@ -28,9 +28,10 @@ use Rattle.line.specs.Line.{unitEnd, toolEnd, lost, repeated, spoiled, Event, a
 use Rattle.line.specs.Book.{Run, run, start, done}
 use Rattle.line.specs.Premises.{AllAllowed, AllClean}
 use Rattle.download.specs.CableEnds.{UnitGiven, cableEnds}
-use Rattle.download.specs.Demand.{Holds, Premises, CallPremise, transfer, Agrees, AgreesClean}
-use Rattle.download.proofs.Runs.{lookups, calls}
-use Rattle.download.proofs.Theorem.{demand3}
+use Rattle.download.specs.AddressCases.{remote}
+use Rattle.download.specs.Demand.{Holds, Premises, StorePremise, transfer, Agrees, AgreesClean}
+use Rattle.download.proofs.Runs.{lookups, calls, lent}
+use Rattle.download.proofs.Theorem.{demand3, demand3-lab}
 
 abbrev overview : AnswerName
 overview = record { trep = 0x31; day = 0 }
@@ -121,23 +122,23 @@ threeFrames =
     }
 
 abbrev call : UnitGiven
-call = record { store = store; reply = 260 }
+call = record { addresses = lab; store = store; reply = 260 }
 
 -- the premise at a call, before the unit sent anything and while it sends
-first-premise : CallPremise threeFrames (unit Granted) call
-first-premise = record { this = holds-overview; sending = tt }
+first-premise : (lab ≡ lab) × StorePremise threeFrames (unit Granted) store
+first-premise = (refl, record { this = holds-overview; sending = tt })
 
 abbrev sending : ℕ → UnitState
 sending k = record { kind = 2; rate = 1; pending = 0; phase = Sending overview (sub k) }
 
-call-premise : (k : ℕ) → CallPremise threeFrames (sending k) call
-call-premise k = record { this = holds-overview; sending = sending-overview }
+call-premise : (k : ℕ) → (lab ≡ lab) × StorePremise threeFrames (sending k) store
+call-premise k = (refl, record { this = holds-overview; sending = sending-overview })
 
-abbrev after : List (Event (cableEnds lab)) → Run (cableEnds lab)
-after es = run (cableEnds lab) (transfer lab threeFrames) es (start (cableEnds lab) (transfer lab threeFrames))
+abbrev after : List (Event cableEnds) → Run cableEnds
+after es = run cableEnds (transfer lab threeFrames) es (start cableEnds (transfer lab threeFrames))
 
-abbrev clean : List (Event (cableEnds lab))
-clean = arrivesAtUnit call ∷ arrivesAtTool 260 ∷ arrivesAtUnit call ∷ arrivesAtTool 260 ∷ arrivesAtUnit call ∷ arrivesAtTool 260 ∷ []
+abbrev clean : List (Event cableEnds)
+clean = arrivesAtUnit call ∷ arrivesAtTool (lent 260) ∷ arrivesAtUnit call ∷ arrivesAtTool (lent 260) ∷ arrivesAtUnit call ∷ arrivesAtTool (lent 260) ∷ []
 
 clean-run : after clean
     ≡ record {
@@ -159,34 +160,35 @@ clean-run : after clean
 unfolding calls
 clean-run = refl
 
-clean-premises : AllClean (cableEnds lab) (transfer lab threeFrames) clean (start (cableEnds lab) (transfer lab threeFrames) .system)
+clean-premises : AllClean cableEnds (transfer lab threeFrames) clean (start cableEnds (transfer lab threeFrames) .system)
 unfolding calls
 clean-premises =
-    ((first-premise, refl), (omega arith, ((call-premise 1, refl), (omega arith, ((call-premise 2, refl), (omega arith, tt))))))
+    ((first-premise, refl), ((refl, omega arith), ((call-premise 1, refl), ((refl, omega arith), ((call-premise 2, refl), ((refl, omega arith), tt))))))
 
 clean-agrees : AgreesClean lab threeFrames (after clean)
-clean-agrees = demand3 lab threeFrames clean .clean clean-premises
+clean-agrees = demand3-lab threeFrames clean .clean clean-premises
 
 -- the same, from another store and with less room than a reply may need
 abbrev otherCall : UnitGiven
-otherCall = record { store = otherStore; reply = 300 }
+otherCall = record { addresses = lab; store = otherStore; reply = 300 }
 
 abbrev shortCall : UnitGiven
-shortCall = record { store = otherStore; reply = 10 }
+shortCall = record { addresses = lab; store = otherStore; reply = 10 }
 
-other-premise : (k reply : ℕ) → CallPremise threeFrames (sending k) (record { store = otherStore; reply = reply })
-other-premise k reply = record { this = other-overview; sending = other-sending }
+other-premise : (k : ℕ) → (lab ≡ lab) × StorePremise threeFrames (sending k) otherStore
+other-premise k = (refl, record { this = other-overview; sending = other-sending })
 
 -- The request is lost and goes out again; it is repeated, and a wait ends early. Frame 1 is taken once and ignored once, a begin is refused, a request meets a
 -- short reply buffer, one is spoiled, and so is one of two frames 2; frame 2 comes once more, then frame 3.
-abbrev rough : List (Event (cableEnds lab))
+abbrev rough : List (Event cableEnds)
 rough =
-    lineChanges unitEnd 0 lost ∷ waitEnds 260 ∷ lineChanges unitEnd 0 repeated ∷ arrivesAtUnit call ∷ waitEnds 260 ∷ arrivesAtUnit otherCall ∷ arrivesAtTool 260
-    ∷ beginRefused (record { request = Transfer; name = interface; output = 260 }) ∷ arrivesAtTool 300 ∷ arrivesAtUnit shortCall
+    lineChanges unitEnd 0 lost ∷ waitEnds (lent 260) ∷ lineChanges unitEnd 0 repeated ∷ arrivesAtUnit call ∷ waitEnds (lent 260)
+    ∷ arrivesAtUnit otherCall ∷ arrivesAtTool (lent 260)
+    ∷ beginRefused (record { addresses = lab; request = Transfer; name = interface; output = 260 }) ∷ arrivesAtTool (lent 300) ∷ arrivesAtUnit shortCall
     ∷ lineChanges unitEnd 0 (spoiled (0x01 ∷ []))
-    ∷ arrivesAtUnit call ∷ waitEnds 260 ∷ arrivesAtUnit call ∷ lineChanges toolEnd 0 repeated ∷ lineChanges toolEnd 0 (spoiled [])
-    ∷ arrivesAtTool 260 ∷ arrivesAtTool 260
-    ∷ arrivesAtUnit otherCall ∷ arrivesAtUnit call ∷ arrivesAtTool 260 ∷ arrivesAtTool 260 ∷ []
+    ∷ arrivesAtUnit call ∷ waitEnds (lent 260) ∷ arrivesAtUnit call ∷ lineChanges toolEnd 0 repeated ∷ lineChanges toolEnd 0 (spoiled [])
+    ∷ arrivesAtTool (lent 260) ∷ arrivesAtTool (lent 260)
+    ∷ arrivesAtUnit otherCall ∷ arrivesAtUnit call ∷ arrivesAtTool (lent 260) ∷ arrivesAtTool (lent 260) ∷ []
 
 rough-run : after rough
     ≡ record {
@@ -208,37 +210,46 @@ rough-run : after rough
 unfolding calls
 rough-run = refl
 
-rough-premises : AllAllowed (cableEnds lab) (transfer lab threeFrames) rough (start (cableEnds lab) (transfer lab threeFrames) .system)
+rough-premises : AllAllowed cableEnds (transfer lab threeFrames) rough (start cableEnds (transfer lab threeFrames) .system)
 unfolding calls
 rough-premises = (
   tt,
   (
-    omega arith,
+    (refl, omega arith),
     (
       tt,
       (
         first-premise,
         (
-          omega arith,
+          (refl, omega arith),
           (
-            other-premise 1 300,
+            other-premise 1,
             (
-              omega arith,
+              (refl, omega arith),
               (
                 refl,
                 (
-                  omega arith,
+                  (refl, omega arith),
                   (
-                    other-premise 1 10,
+                    other-premise 1,
                     (
                       refl,
                       (
                         call-premise 1,
                         (
-                          omega arith,
+                          (refl, omega arith),
                           (
                             call-premise 1,
-                            (tt, (refl, (omega arith, (omega arith, (other-premise 2 300, (call-premise 2, (omega arith, (omega arith, tt)))))))),
+                            (
+                              tt,
+                              (
+                                refl,
+                                (
+                                  (refl, omega arith),
+                                  ((refl, omega arith), (other-premise 2, (call-premise 2, ((refl, omega arith), ((refl, omega arith), tt))))),
+                                ),
+                              ),
+                            ),
                           ),
                         ),
                       ),
@@ -255,18 +266,18 @@ rough-premises = (
 )
 
 rough-agrees : Agrees lab threeFrames (after rough)
-rough-agrees = demand3 lab threeFrames rough .allowed rough-premises
+rough-agrees = demand3-lab threeFrames rough .allowed rough-premises
 
 -- The request is lost, and nothing arrives any more.
-abbrev silence : List (Event (cableEnds lab))
-silence = lineChanges unitEnd 0 lost ∷ waitEnds 260 ∷ waitEnds 260 ∷ waitEnds 260 ∷ []
+abbrev silence : List (Event cableEnds)
+silence = lineChanges unitEnd 0 lost ∷ waitEnds (lent 260) ∷ waitEnds (lent 260) ∷ waitEnds (lent 260) ∷ []
 
 silent-run : (after silence .system .tool .state .outcome ≡ NoAnswer) × (after silence .system .tool .state .sendings ≡ 3) × (after silence .system .putOut ≡ 3)
 unfolding calls
 silent-run = (refl, refl, refl)
 
 silent-agrees : Agrees lab threeFrames (after silence)
-silent-agrees = demand3 lab threeFrames silence .allowed (tt, (omega arith, (omega arith, (omega arith, tt))))
+silent-agrees = demand3-lab threeFrames silence .allowed (tt, ((refl, omega arith), ((refl, omega arith), ((refl, omega arith), tt))))
 
 -- one frame, the unit sending another answer
 abbrev oneFrame : Premises
@@ -288,10 +299,10 @@ oneFrame =
       suffices = omega arith;
     }
 
-abbrev exchange : List (Event (cableEnds lab))
-exchange = arrivesAtUnit call ∷ arrivesAtTool 260 ∷ []
+abbrev exchange : List (Event cableEnds)
+exchange = arrivesAtUnit call ∷ arrivesAtTool (lent 260) ∷ []
 
-one-run : run (cableEnds lab) (transfer lab oneFrame) exchange (start (cableEnds lab) (transfer lab oneFrame)) .system .tool
+one-run : run cableEnds (transfer lab oneFrame) exchange (start cableEnds (transfer lab oneFrame)) .system .tool
     ≡ record {
       state = record { request = Transfer; outcome = Done; name = interface; sendings = 1; expected = sub 1; held = 4 };
       room = 0x76 ∷ 0x00 ∷ 0x02 ∷ 0x02 ∷ [];
@@ -299,8 +310,8 @@ one-run : run (cableEnds lab) (transfer lab oneFrame) exchange (start (cableEnds
 unfolding calls
 one-run = refl
 
-one-agrees : AgreesClean lab oneFrame (run (cableEnds lab) (transfer lab oneFrame) exchange (start (cableEnds lab) (transfer lab oneFrame)))
-one-agrees = demand3 lab oneFrame exchange .clean ((record { this = holds-interface; sending = sending-overview }, refl), (omega arith, tt))
+one-agrees : AgreesClean lab oneFrame (run cableEnds (transfer lab oneFrame) exchange (start cableEnds (transfer lab oneFrame)))
+one-agrees = demand3-lab oneFrame exchange .clean (((refl, record { this = holds-interface; sending = sending-overview }), refl), ((refl, omega arith), tt))
 
 -- activities that are kept under the first second of their day, asked for by its middle
 abbrev noon : AnswerName
@@ -344,10 +355,10 @@ byNoon =
       suffices = omega arith;
     }
 
-abbrev dayExchange : List (Event (cableEnds lab))
-dayExchange = arrivesAtUnit (record { store = dayStore; reply = 260 }) ∷ arrivesAtTool 260 ∷ []
+abbrev dayExchange : List (Event cableEnds)
+dayExchange = arrivesAtUnit (record { addresses = lab; store = dayStore; reply = 260 }) ∷ arrivesAtTool (lent 260) ∷ []
 
-noon-run : run (cableEnds lab) (transfer lab byNoon) dayExchange (start (cableEnds lab) (transfer lab byNoon)) .system .tool
+noon-run : run cableEnds (transfer lab byNoon) dayExchange (start cableEnds (transfer lab byNoon)) .system .tool
     ≡ record {
       state = record { request = Transfer; outcome = Done; name = noon; sendings = 1; expected = sub 1; held = 3 };
       room = 0x76 ∷ 0x02 ∷ 0xAA ∷ [];
@@ -355,5 +366,22 @@ noon-run : run (cableEnds lab) (transfer lab byNoon) dayExchange (start (cableEn
 unfolding calls
 noon-run = refl
 
-noon-agrees : AgreesClean lab byNoon (run (cableEnds lab) (transfer lab byNoon) dayExchange (start (cableEnds lab) (transfer lab byNoon)))
-noon-agrees = demand3 lab byNoon dayExchange .clean ((record { this = holds-noon; sending = tt }, refl), (omega arith, tt))
+noon-agrees : AgreesClean lab byNoon (run cableEnds (transfer lab byNoon) dayExchange (start cableEnds (transfer lab byNoon)))
+noon-agrees = demand3-lab byNoon dayExchange .clean (((refl, record { this = holds-noon; sending = tt }), refl), ((refl, omega arith), tt))
+
+-- the same exchange of one frame at other addresses, those that source document 000 recommends
+abbrev remoteExchange : List (Event cableEnds)
+remoteExchange = arrivesAtUnit (record { addresses = remote; store = store; reply = 260 }) ∷ arrivesAtTool (record { addresses = remote; output = 260 }) ∷ []
+
+remote-run : run cableEnds (transfer remote oneFrame) remoteExchange (start cableEnds (transfer remote oneFrame)) .system .tool
+    ≡ record {
+      state = record { request = Transfer; outcome = Done; name = interface; sendings = 1; expected = sub 1; held = 4 };
+      room = 0x76 ∷ 0x00 ∷ 0x02 ∷ 0x02 ∷ [];
+    }
+unfolding calls
+remote-run = refl
+
+remote-agrees : AgreesClean remote oneFrame (run cableEnds (transfer remote oneFrame) remoteExchange (start cableEnds (transfer remote oneFrame)))
+remote-agrees =
+    demand3 remote (λ e. omega arith) oneFrame remoteExchange .clean
+    (((refl, record { this = holds-interface; sending = sending-overview }), refl), ((refl, omega arith), tt))

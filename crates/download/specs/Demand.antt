@@ -1,12 +1,13 @@
--- DEMAND 3 (document 01, "The line and the book"): one claim about every list of events, over any two addresses that
--- both ends are given at every call; they need not differ. The chain: a call → its promise → a definition (specs/ of
--- unit and tool) → an end of the cable (CableEnds.antt) → line, events and book (specs/ of line) → the claim here.
+-- DEMAND 3 (document 01, "The line and the book"): one claim about every list of events, over any two different
+-- addresses, "with the same two given to both ends at every call" (document 02, Req 05). The chain: a call → its
+-- promise → a definition (specs/ of unit and tool) → an end of the cable (CableEnds.antt) → line, events and book
+-- (specs/ of line) → the claim here.
 -- proofs/Theorem.antt proves it; proofs/Witness.antt meets its premises; proofs/Needed.antt shows what breaks without
 -- each.
 use mathlib.Core.Path.{_≡_}
 use mathlib.Core.Bool.{true, false}
 use mathlib.Core.List.{List, [], _∷_, _++_}
-use mathlib.Core.Logic.{_↔_}
+use mathlib.Core.Logic.{_↔_, _≢_}
 use Prim.Native.Nat.{ℕ, zero, suc, _+_, _*_, _≤_, _<_}
 use lib.ListN.{length, take, drop}
 use lib.Dec.{leb}
@@ -32,7 +33,7 @@ use Rattle.line.specs.Line.{Event}
 use Rattle.line.specs.Book as books
 use Rattle.line.specs.Book.{Run, run, start}
 use Rattle.line.specs.Premises.{AllAllowed, AllClean}
-use Rattle.download.specs.CableEnds.{UnitGiven, cableEnds, refused, toolBegun}
+use Rattle.download.specs.CableEnds.{cableEnds, refused, toolBegun}
 
 -- The premises
 
@@ -74,11 +75,11 @@ SendingUnchanged Granted before now = Unit {0}
 SendingUnchanged (Sending other last) before now = Holds now other (lookupPart narrow other before)
 
 module _ (given : Premises) where
-  -- A unit's call in the state u. The store may be another one at every call; it is unbroken and holds this answer as
-  -- at the begin, and the one that is being sent.
-  pub record CallPremise (u : UnitState) (c : UnitGiven) : Type 0 where
-    pub this : Holds (c .store) (given .name) (given .answer)
-    pub sending : SendingUnchanged (u .phase) (given .store) (c .store)
+  -- The store of a unit's call in the state u. It may be another one at every call; it is unbroken and holds this
+  -- answer as at the begin, and the one that is being sent.
+  pub record StorePremise (u : UnitState) (store : List ℕ) : Type 0 where
+    pub this : Holds store (given .name) (given .answer)
+    pub sending : SendingUnchanged (u .phase) (given .store) store
 
   -- the data of the answer, behind 76 and TREP
   abbrev pub answerData : List ℕ
@@ -101,9 +102,10 @@ outcomeOf books.noAnswer = NoAnswer
 outcomeOf books.heldOff = Fresh
 
 module _ (a : Addresses) (given : Premises) where
-  -- "the answer's frames 1 to q, split as above"; no unit asks for time. An event's output has 260 bytes or more; a
-  -- reply buffer has any length, on a clean line 260 or more.
-  abbrev pub transfer : books.Transfer (cableEnds a)
+  -- "the answer's frames 1 to q, split as above"; no unit asks for time. Every call is given the same two addresses; a
+  -- refused begin, which changes nothing, may be given any. An event's output has 260 bytes or more; a reply buffer has
+  -- any length, on a clean line 260 or more.
+  abbrev pub transfer : books.Transfer cableEnds
   transfer =
       record {
         q = countOf (length (answerData given));
@@ -113,27 +115,27 @@ module _ (a : Addresses) (given : Premises) where
         asksTime = λ p x. false;
         timeMost = 0;
         owed = 0;
-        unitPremise = CallPremise given;
-        toolPremise = λ output. frameMost ≤ output;
+        unitPremise = λ u c. (c .addresses ≡ a) × StorePremise given u (c .store);
+        toolPremise = λ d. (d .addresses ≡ a) × (frameMost ≤ d .output);
         hasRoom = λ c. leb frameMost (c .reply);
         unit = given .unit;
-        begun = toolBegun a
-            (record { request = requests.Transfer; name = given .name; output = given .output })
+        begun = toolBegun
+            (record { addresses = a; request = requests.Transfer; name = given .name; output = given .output })
             (record { state = given .tool; room = given .room });
       }
 
   -- the unit and the tool after some events, and the bytes that the tool holds in its room
-  abbrev pub unit : Run (cableEnds a) → UnitState
+  abbrev pub unit : Run cableEnds → UnitState
   unit r = r .system .unit
 
-  abbrev pub tool : Run (cableEnds a) → ToolState
+  abbrev pub tool : Run cableEnds → ToolState
   tool r = r .system .tool .state
 
-  abbrev pub heldBytes : Run (cableEnds a) → List ℕ
+  abbrev pub heldBytes : Run cableEnds → List ℕ
   heldBytes r = take (tool r .held) (r .system .tool .room)
 
   -- After every list of allowed events
-  pub record Agrees (r : Run (cableEnds a)) : Type 0 where
+  pub record Agrees (r : Run cableEnds) : Type 0 where
     -- "After every list the tool waits or has ended as the book has": by done or by no answer
     pub outcome : tool r .outcome ≡ outcomeOf (r .book .outcome)
     pub neverHeldOff : r .book .outcome ≡ books.heldOff → ⊥
@@ -163,7 +165,7 @@ module _ (a : Addresses) (given : Premises) where
     pub unitPossible : unitStates.possible (given .store) (unit r) ≡ true
 
   -- "On a clean line without early waits, done comes at the q-th arrival at the tool, the line never empty before"
-  pub record AgreesClean (r : Run (cableEnds a)) : Type 0 where
+  pub record AgreesClean (r : Run cableEnds) : Type 0 where
     pub agrees : Agrees r
     pub doneAtArrival : (tool r .outcome ≡ Done) ↔ (r .system .toolArrivals ≡ transfer .q)
     pub neverEmpty : tool r .outcome ≡ Waiting → r .system .toUnit ++ r .system .toTool ≡ [] → ⊥
@@ -172,11 +174,12 @@ module _ (a : Addresses) (given : Premises) where
     pub inTime : 2 * transfer .q ≤ r .system .unitArrivals + r .system .toolArrivals → tool r .outcome ≡ Done
 
   -- "This is one claim about the list, not one for each call."
-  pub record Claim (events : List (Event (cableEnds a))) : Type 0 where
-    pub allowed : AllAllowed (cableEnds a) transfer events (start (cableEnds a) transfer .system)
-        → Agrees (run (cableEnds a) transfer events (start (cableEnds a) transfer))
-    pub clean : AllClean (cableEnds a) transfer events (start (cableEnds a) transfer .system)
-        → AgreesClean (run (cableEnds a) transfer events (start (cableEnds a) transfer))
+  pub record Claim (events : List (Event cableEnds)) : Type 0 where
+    pub allowed : AllAllowed cableEnds transfer events (start cableEnds transfer .system)
+        → Agrees (run cableEnds transfer events (start cableEnds transfer))
+    pub clean : AllClean cableEnds transfer events (start cableEnds transfer .system)
+        → AgreesClean (run cableEnds transfer events (start cableEnds transfer))
 
 abbrev pub Demand3 : Type 0
-Demand3 = (a : Addresses) (given : Premises) (events : List (Event (cableEnds a))) → Claim a given events
+Demand3 =
+    (a : Addresses) → a .unit ≢ a .tool → (given : Premises) (events : List (Event cableEnds)) → Claim a given events

@@ -2,5 +2,7 @@
 pub mod WriteLaws
 pub mod CheckLaws
 pub mod FrontLaws
+pub mod GivenLaws
 pub mod Theorems
+pub mod Readdressed
 pub mod Claims

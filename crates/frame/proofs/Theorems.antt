@@ -6,11 +6,13 @@ use mathlib.Core.Logic.{_≢_}
 use mathlib.Core.Path.{_≡_, refl, sym, ap, _∙_}
 use native.Mathlib.Omega.{arith}
 use native.Mathlib.Decide.{decLt}
+use lib.Dec.{eqb}
 use lib.ListN.{length, getD, take, set, length-append, length-set, length-take}
 use lib.Seq.{take-append-seam, getD-append-seam, take-set-lt, take-set-le, getD-set-same, getD-set-other, getD-take, length-take-le}
-use borrow.Author.Tests.{lt-ltb, le-leb, eq-eqb}
+use borrow.Author.Tests.{lt-ltb, le-leb, eq-eqb, eqb-true}
 use Rattle.octets.specs.Sum.{checksumOf}
 use Rattle.octets.proofs.SumLaws.{total-set}
+use Rattle.octets.proofs.Tests.{and-left, and-right}
 use Rattle.frame.specs.Frame.{isStart, target, source, closed, frameOf, countRight, startRight, addressed, checksumRight, judged, dataPlace, dataOf}
 use Rattle.frame.specs.Messages.{startFrame}
 use Rattle.frame.specs.declared.End.{End}
@@ -19,11 +21,16 @@ use Rattle.frame.specs.declared.Addresses.{Addresses}
 use Rattle.frame.proofs.WriteLaws.{length-frame}
 use Rattle.frame.proofs.CheckLaws.{Good, good, good-sum, count-start, count-general}
 
+-- the last byte is compared with the sum of those before it
+pub sum-is : (b : List ℕ) (last : ℕ) → checksumRight (b ++ (last ∷ [])) ≡ eqb (checksumOf b) last
+unfolding checksumRight
+sum-is b last =
+    let n : length (b ++ (last ∷ [])) - 1 ≡ length b = simp length-append (omega arith) in
+    rw (n, take-append-seam, getD-append-seam)
+
 pub closed-sum : (b : List ℕ) → checksumRight (closed b) ≡ true
-unfolding checksumRight closed
-closed-sum b =
-    let n : length (b ++ (checksumOf b ∷ [])) - 1 ≡ length b = simp length-append (omega arith) in
-    rw (n, take-append-seam, getD-append-seam) (eq-eqb (checksumOf b) _ refl)
+unfolding closed
+closed-sum b = sum-is b (checksumOf b) ∙ eq-eqb (checksumOf b) _ refl
 
 module _ (a : Addresses) (end : End) (d : List ℕ) (some : 0 < length d) (most : length d ≤ 255) where
   -- a written frame is judged 0 at the end that it goes to
@@ -95,3 +102,45 @@ module _ (a : Addresses) (end : End) (f : List ℕ) (right : judged a end f ≡ 
       go false e g h m zero three =
           let s : isStart (take n f) ≡ false = rw zero e in
           omega (arith, count-general f (g .count) e, count-general (take n f) (h .count) s)
+
+-- "Number 2 is then given when a frame's addresses are not those two in the right direction" (document 02, Req 05): a good frame is 2 wherever another target
+-- or another source is right
+module _ (a b : Addresses) (end end′ : End) (f : List ℕ) (right : judged a end f ≡ 0)
+    (other : target b end′ ≡ target a end → source b end′ ≡ source a end → ⊥) where
+  targets : (c : Addresses) (e : End) → addressed c e f ≡ true → getD f 1 0 ≡ target c e
+  unfolding addressed
+  targets c e h = eqb-true _ _ (and-left (eqb (getD f 1 0) (target c e)) _ h)
+
+  sources : (c : Addresses) (e : End) → addressed c e f ≡ true → getD f 2 0 ≡ source c e
+  unfolding addressed
+  sources c e h = eqb-true _ _ (and-left (eqb (getD f 2 0) (source c e)) _ (and-right (eqb (getD f 1 0) (target c e)) _ h))
+
+  not-addressed : addressed b end′ f ≡ false
+  not-addressed = go (addressed b end′ f) refl (good a end f right .address)
+    where
+      go : (t : Bool) → addressed b end′ f ≡ t → addressed a end f ≡ true → addressed b end′ f ≡ false
+      go true e h = absurd (other (sym (targets b end′ e) ∙ targets a end h) (sym (sources b end′ e) ∙ sources a end h))
+      go false e h = e
+
+  elsewhere : judged b end′ f ≡ 2
+  unfolding judged
+  elsewhere =
+      let g = good a end f right in
+      rw (le-leb 5 (length f) (g .five), g .format, g .count, not-addressed)
+
+-- at any other two addresses
+module _ (a b : Addresses) where
+  not-both : (end : End) → (b .unit ≡ a .unit → b .tool ≡ a .tool → ⊥) → target b end ≡ target a end → source b end ≡ source a end → ⊥
+  not-both ends.Unit n t s = n t s
+  not-both ends.Tool n t s = n s t
+
+  pub others-refused : (end : End) (f : List ℕ) → judged a end f ≡ 0 → (b .unit ≡ a .unit → b .tool ≡ a .tool → ⊥) → judged b end f ≡ 2
+  others-refused end f right n = elsewhere a b end end f right (not-both end n)
+
+-- and at the other end
+module _ (a : Addresses) (n : a .unit ≢ a .tool) (f : List ℕ) where
+  pub to-unit-refused : judged a ends.Unit f ≡ 0 → judged a ends.Tool f ≡ 2
+  to-unit-refused right = elsewhere a a ends.Unit ends.Tool f right (λ t s. n (sym t))
+
+  pub to-tool-refused : judged a ends.Tool f ≡ 0 → judged a ends.Unit f ≡ 2
+  to-tool-refused right = elsewhere a a ends.Tool ends.Unit f right (λ t s. n t)

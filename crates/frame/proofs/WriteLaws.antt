@@ -11,7 +11,7 @@ use Rattle.octets.specs.Buffer.{front, put, copied}
 use Rattle.octets.specs.declared.Written.{Written}
 use Rattle.octets.proofs.BufferLaws.{stores-front, stores-put, put-front, take-front, copied-fits}
 use Rattle.octets.proofs.CallLaws.{kept, changed}
-use Rattle.frame.specs.Frame.{frameMost, lab, target, source, closed, frameOf, sendNumber, sendResult, sendOut, writeNumber, writeResult, writeOut}
+use Rattle.frame.specs.Frame.{frameMost, target, source, closed, frameOf, sendNumber, sendResult, sendOut, writeNumber, writeResult, writeOut}
 use Rattle.frame.specs.Messages.{startFrame}
 use Rattle.frame.specs.declared.End.{End}
 use Rattle.frame.specs.declared.Addresses.{Addresses}
@@ -122,13 +122,17 @@ module _ (a : Addresses) (end : End) (p r o o₁ o₂ o₃ o₄ : List ℕ) (t s
       rw (e₄, f₃, take-front (length p + length r + 4) b o k) (put-front (length p + length r + 4) b _ o k) in
       changed _ o₄ (front (b ++ (checksumOf b ∷ [])) o) o (number-good p r (length o) z l h) f₄
 
--- the five-byte start: the string that is copied, and a buffer that is too short for it
-pub start-short : (o : List ℕ) → length o < 5
-    → (_≡_ {A = Written} (record { number = 4; len = 0 }) (sendResult (startFrame lab) (length o))) × (o ≡ sendOut (startFrame lab) o)
-unfolding closed sendNumber sendResult sendOut
-start-short o h = rw (lt-leb 5 (length o) h) (refl, refl)
+-- the five-byte start: a buffer that is too short for it, or its bytes f, which are copied
+module _ (a : Addresses) (o : List ℕ) where
+  pub start-short : length o < 5 → (_≡_ {A = Written} (record { number = 4; len = 0 }) (sendResult (startFrame a) (length o))) × (o ≡ sendOut (startFrame a) o)
+  unfolding closed sendNumber sendResult sendOut
+  start-short h = rw (lt-leb 5 (length o) h) (refl, refl)
 
-pub start-written : (o o′ : List ℕ) → 5 ≤ length o → o′ ≡ copied (0x81 ∷ 0xEE ∷ 0xF0 ∷ 0x81 ∷ 0xE0 ∷ []) o
-    → (_≡_ {A = Written} (record { number = 0; len = 5 }) (sendResult (startFrame lab) (length o))) × (o′ ≡ sendOut (startFrame lab) o)
-unfolding closed sendNumber sendResult sendOut
-start-written o o′ h e = rw (le-leb 5 (length o) h) (refl, e ∙ copied-fits _ o (omega arith))
+  pub start-written : (f o′ : List ℕ) → 5 ≤ length o → f ≡ startFrame a → o′ ≡ copied f o
+      → (_≡_ {A = Written} (record { number = 0; len = 5 }) (sendResult (startFrame a) (length o))) × (o′ ≡ sendOut (startFrame a) o)
+  unfolding closed sendNumber sendResult sendOut
+  start-written f o′ h q e = rw (le-leb 5 (length o) h) (refl, e ∙ ap (λ (g : List ℕ). copied g o) q ∙ copied-fits (startFrame a) o (omega arith))
+
+pub start-is : (a : Addresses) (sum : ℕ) → sum ≡ checksumOf (0x81 ∷ a .unit ∷ a .tool ∷ 0x81 ∷ []) → 0x81 ∷ a .unit ∷ a .tool ∷ 0x81 ∷ sum ∷ [] ≡ startFrame a
+unfolding closed
+start-is a sum e = rw e

@@ -4,7 +4,8 @@ use mathlib.Core.List.{List, [], _∷_}
 use Rattle.frame.specs.declared.Addresses.{Addresses}
 use Rattle.frame.specs.Frame.{closed}
 
--- "the five bytes 81 EE F0 81 E0, start communication, without LEN"
+-- "the five bytes 81 EE F0 81 E0, start communication, without LEN"; it "carries them too, and its CS follows"
+-- (document 02, Req 05)
 abbrev pub startFrame : Addresses → List ℕ
 startFrame a = closed (0x81 ∷ a .unit ∷ a .tool ∷ 0x81 ∷ [])
 

@@ -1,8 +1,7 @@
-// Judging a frame at the end that it arrives at, and its data part.
+// Judging a frame at the end that it arrives at, and where its data lies, for any two addresses.
 use crate::Addresses;
 use crate::End;
 use crate::GENERAL;
-use crate::LAB;
 use crate::WITHOUT_LEN;
 use octets::Place;
 use octets::numbers::CHECKSUM_WRONG;
@@ -12,8 +11,8 @@ use octets::wire::START_COMMUNICATION;
 ghost use mathlib.Core.Path.{_≡_};
 ghost use Prim.Native.Nat.{_≤_};
 ghost use lib.ListN.{length};
-ghost use Rattle.frame.specs.Frame.{lab, target, source, knownFormat, countRight, addressed, startRight};
-ghost use Rattle.frame.specs.Frame.{checksumRight, judged, dataPlace, dataOf};
+ghost use Rattle.frame.specs.Frame.{target, source, knownFormat, countRight, addressed, startRight};
+ghost use Rattle.frame.specs.Frame.{checksumRight, judged, dataPlace};
 
 // The address that a frame arriving at `end` goes to.
 pub(crate) fn target_of(addresses: Addresses, end: End) -> u8
@@ -65,15 +64,19 @@ fn start_right(frame: &[u8], end: End) -> bool
     }
 }
 
-fn addressed_to(frame: &[u8], addresses: Addresses, end: End) -> bool
+fn addressed_to(addresses: Addresses, frame: &[u8], end: End) -> bool
     requires { ⌜ 5 ≤ length (now frame) ⌝ }
     ensures { λ r. ⌜ r ≡ addressed addresses «end» (now (frame .entry)) ⌝ }
 {
-    if frame[1] != target_of(addresses, end) {
-        return false;
+    let target = target_of(addresses, end);
+    let source = source_of(addresses, end);
+    let to = frame[1];
+    let from = frame[2];
+    if to != target {
+        return false; // it goes elsewhere
     }
-    if frame[2] != source_of(addresses, end) {
-        return false;
+    if from != source {
+        return false; // it comes from elsewhere
     }
     if frame[0] != WITHOUT_LEN {
         return true;
@@ -89,8 +92,8 @@ fn checksum_right(frame: &[u8]) -> bool
     octets::sum::checksum(&frame[..last]) == frame[last]
 }
 
-// The number of a frame at `end`, for any two addresses.
-pub(crate) fn judge(frame: &[u8], addresses: Addresses, end: End) -> u8
+// The number of a frame that arrives at `end`: 0 where it is good, else 1, 2 or 3.
+pub(crate) fn judge(addresses: Addresses, frame: &[u8], end: End) -> u8
     ensures { λ r. ⌜ r ≡ judged addresses «end» (now (frame .entry)) ⌝ }
 {
     if frame.len() < 5 {
@@ -102,7 +105,7 @@ pub(crate) fn judge(frame: &[u8], addresses: Addresses, end: End) -> u8
     if !count_right(frame) {
         return FRAME_COUNT;
     }
-    if !addressed_to(frame, addresses, end) {
+    if !addressed_to(addresses, frame, end) {
         return FORMAT_OR_ADDRESS;
     }
     if !checksum_right(frame) {
@@ -111,18 +114,11 @@ pub(crate) fn judge(frame: &[u8], addresses: Addresses, end: End) -> u8
     0
 }
 
-// The number of a frame that arrives at `end`: 0 where it is good, else 1, 2 or 3.
-pub fn check(frame: &[u8], end: End) -> u8
-    ensures { λ r. ⌜ r ≡ judged lab «end» (now (frame .entry)) ⌝ }
-{
-    judge(frame, LAB, end)
-}
-
 // Where the data of a frame lies: behind the header, or the SID of the five-byte start.
-pub fn locate(frame: &[u8], end: End) -> Place
-    ensures { λ r. ⌜ r ≡ dataPlace lab «end» (now (frame .entry)) ⌝ }
+pub fn locate(addresses: Addresses, frame: &[u8], end: End) -> Place
+    ensures { λ r. ⌜ r ≡ dataPlace addresses «end» (now (frame .entry)) ⌝ }
 {
-    let number = check(frame, end);
+    let number = judge(addresses, frame, end);
     if number != 0 {
         return octets::refused_place(number);
     }
@@ -138,11 +134,4 @@ pub fn locate(frame: &[u8], end: End) -> Place
         start: 4,
         len: octets::byte::usize_of(octets::byte::byte_at(frame, 3)),
     }
-}
-
-// The data of a good frame, as that part of it; empty where `check` refuses it.
-pub fn data_of(frame: &[u8], end: End) -> &[u8]
-    ensures { λ r. ⌜ now r ≡ dataOf lab «end» (now (frame .entry)) ⌝ }
-{
-    octets::buffer::part(frame, locate(frame, end))
 }

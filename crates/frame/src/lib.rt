@@ -1,4 +1,7 @@
-// Frames of the download protocol (document 01, Frames; DDP_002): judging, reading and writing them.
+// Frames of the download protocol (document 01, Frames; DDP_002): judging, reading and writing them. The calls are in
+// `call`, with both addresses as given (document 02, Req 05); `check` and `write` are what stands behind their test of
+// the two, for crates whose own calls make it.
+pub mod call;
 pub mod check;
 pub mod front;
 pub mod messages;
@@ -10,7 +13,7 @@ pub enum End {
     Tool,
 }
 
-// The addresses of both ends. Definitions and private functions are over any two, public calls at the lab's.
+// The addresses of both ends.
 pub struct Addresses {
     pub unit: u8,
     pub tool: u8,
@@ -19,9 +22,9 @@ pub struct Addresses {
 // The first byte of a frame: the general form, and the one without LEN, of start communication alone.
 pub(crate) const GENERAL: u8 = 0x80;
 
-pub(crate) const WITHOUT_LEN: u8 = 0x81;
+pub const WITHOUT_LEN: u8 = 0x81;
 
-// Unit address EE, tool address F0.
+// The lab's. Unit address EE, tool address F0.
 pub const LAB: Addresses = Addresses {
     unit: 0xEE,
     tool: 0xF0,

@@ -1,13 +1,10 @@
-// The fixed messages of the protocol as byte strings: requests that the tool writes and the unit compares, replies the
-// other way round.
-use octets::Written;
-use octets::numbers::BUFFER_SHORT;
+// The fixed messages of the protocol as byte strings: the data of requests that the tool writes and the unit compares,
+// of replies the other way round, and the start at the lab's addresses, which `write::write_start` writes at any two.
 ghost use mathlib.Core.Path.{_≡_};
-ghost use lib.ListN.{length};
-ghost use Rattle.frame.specs.Frame.{lab, sendResult, sendOut};
+ghost use Rattle.frame.specs.Frame.{lab};
 ghost use Rattle.frame.specs.Messages.{startFrame};
 
-// Start communication: the whole frame, the one without LEN.
+// Start communication at the lab's addresses: the whole frame, the one without LEN.
 pub const START: [u8; 5] = *b"\x81\xee\xf0\x81\xe0";
 
 // The data of the other fixed requests.
@@ -32,17 +29,9 @@ pub const EXITED: [u8; 1] = *b"\x77";
 
 pub const STOPPED: [u8; 1] = *b"\xc2";
 
-// Writes the five-byte start frame at the front of `out`; 4 where it is shorter.
-pub fn write_start(out: &mut [u8]) -> Written
-    ensures { λ r. ⌜ r ≡ sendResult (startFrame lab) (length (now (out .entry))) ⌝ }
-    ensures { λ _. ⌜ now (out .exit) ≡ sendOut (startFrame lab) (now (out .entry)) ⌝ }
+// The start at the lab's addresses, as that fixed string.
+pub fn lab_start() -> [u8; 5]
+    ensures { λ r. ⌜ r ≡ startFrame lab ⌝ }
 {
-    if out.len() < 5 {
-        return Written {
-            number: BUFFER_SHORT,
-            len: 0,
-        };
-    }
-    octets::buffer::copy_in(out, &START);
-    Written { number: 0, len: 5 }
+    START
 }

@@ -13,7 +13,9 @@ use Rattle.octets.specs.declared.Written.{Written}
 use Rattle.octets.proofs.OrderLaws.{or-zero, or-refused}
 use Rattle.octets.proofs.BufferLaws.{copied-fits}
 use Rattle.frame.specs.declared.End.the-variants as ends
-use Rattle.frame.specs.Frame.{lab, judged}
+use Rattle.frame.specs.declared.Addresses.{Addresses}
+use Rattle.frame.specs.Frame.{judged}
+use Rattle.frame.proofs.GivenLaws.{equal-ones, different-ones, taken-given}
 use Rattle.catalog.specs.declared.AnswerName.{AnswerName}
 use Rattle.store.specs.Layout.{narrow}
 use Rattle.store.specs.Check.{storeNumber}
@@ -21,14 +23,15 @@ use Rattle.services.specs.declared.UnitState.{UnitState}
 use Rattle.unit.specs.declared.UnitReply.{UnitReply}
 use Rattle.services.specs.State.{freshUnit, possibleAt}
 use Rattle.unit.specs.State as unit-state
-use Rattle.unit.specs.Call.{numberBefore, unitNumber, unitResult, unitOut}
+use Rattle.unit.specs.Call.{numberBefore, unitNumber, unitResult, unitResultGiven, unitOutGiven}
 use Rattle.progress.specs.declared.Request.{Request}
 use Rattle.arrival.specs.declared.Meaning.{Meaning}
 use Rattle.progress.specs.declared.ToolState.{ToolState}
 use Rattle.tool.specs.declared.ToolStep.{ToolStep}
 use Rattle.progress.specs.State as tool-state
-use Rattle.tool.specs.Call.{requestNumber, beginNumber, beginResult, beginOut, eventNumber, eventResult, arrivalResult, arrivalRoom, arrivalOut, waitResult}
-use Rattle.tool.specs.Call.{waitOut}
+use Rattle.tool.specs.Call.{requestNumber, beginNumber, beginResult, beginResultGiven, beginOutGiven, eventNumber, eventResult}
+use Rattle.tool.specs.Call.{arrivalResultGiven, arrivalRoomGiven, arrivalOutGiven, waitResultGiven, waitOutGiven}
+use Rattle.tool.specs.Call.{eventResultGiven}
 use Rattle.states.specs.Packed.{packedUnit, isUnit, noUnit, unpackedUnit, requestFrom, packedTool, isTool, noTool, unpackedTool}
 use Rattle.host.specs.Calls.{unitFreshNumber, unitFreshState, unitHanded, unitKept, unitStep, unitStepReply, toolFreshNumber, toolFreshState, toolHanded}
 use Rattle.host.specs.Calls.{toolKept, toolBegin, toolBeginOut, toolArrival, toolArrivalRoom, toolArrivalOut, toolWait, toolWaitOut}
@@ -49,33 +52,34 @@ turn-taken false n before size b state none z = absurd (let e = or-zero before 1
 -- The unit
 
 -- bytes that are no state: 11 behind the store's number, whatever follows
-pub unit-impossible : (store : List ℕ) (room : ℕ) (b f : List ℕ) → isUnit b ≡ false
-    → unitNumber lab store room (unpackedUnit b) f ≡ orElse (storeNumber narrow store) 11
+pub unit-impossible : (a : Addresses) (store : List ℕ) (room : ℕ) (b f : List ℕ) → isUnit b ≡ false
+    → unitNumber a store room (unpackedUnit b) f ≡ orElse (storeNumber narrow store) 11
 unfolding unitNumber numberBefore unit-state.possible possibleAt
-unit-impossible store room b f h =
-    rw (← unit-none b noUnit h refl) (or-refused (storeNumber narrow store) 11 (judged lab ends.Unit f) refl)
+unit-impossible a store room b f h =
+    rw (← unit-none b noUnit h refl) (or-refused (storeNumber narrow store) 11 (judged a ends.Unit f) refl)
 
-pub step-state : (step : UnitReply) (u : UnitState) (store : List ℕ) (room : ℕ) (b f p : List ℕ) → u ≡ unpackedUnit b → step ≡ unitResult lab store room u f
-    → p ≡ packedUnit (step .state) → step .number ≡ 0
+pub step-state : (a : Addresses) (step : UnitReply) (u : UnitState) (store : List ℕ) (room : ℕ) (b f p : List ℕ) → u ≡ unpackedUnit b
+    → step ≡ unitResultGiven a store room u f → p ≡ packedUnit (step .state) → step .number ≡ 0
     → length b ≡ length p
-unfolding unitResult
-step-state step u store room b f p e q k n =
+unfolding unitResultGiven unitResult
+step-state a step u store room b f p e q k n =
+    let made : step ≡ unitResult a store room u f = taken-given a _ _ step (λ (s : UnitReply). s .number) (λ z. omega arith) q n in
     rw (k, length-unit (step .state))
-    (turn-taken (isUnit b) (unitNumber lab store room (unpackedUnit b) f) (storeNumber narrow store) 11 b (unit-size b) (unit-impossible store room b f)
-    (rw (← e) (ap (λ (s : UnitReply). s .number) (sym q) ∙ n)))
+    (turn-taken (isUnit b) (unitNumber a store room (unpackedUnit b) f) (storeNumber narrow store) 11 b (unit-size b) (unit-impossible a store room b f)
+    (rw (← e) (ap (λ (s : UnitReply). s .number) (sym made) ∙ n)))
 
 -- a step on the state u that the bytes are
-module _ (b : List ℕ) (u : UnitState) (e : u ≡ unpackedUnit b) (store f : List ℕ) where
-  module _ (step : UnitReply) (room : ℕ) (q : step ≡ unitResult lab store room u f) where
-    pub step-handed : (w : Written) → w ≡ record { number = step .number; len = step .len } → w ≡ unitHanded (unitStep b store room f)
+module _ (a : Addresses) (b : List ℕ) (u : UnitState) (e : u ≡ unpackedUnit b) (store f : List ℕ) where
+  module _ (step : UnitReply) (room : ℕ) (q : step ≡ unitResultGiven a store room u f) where
+    pub step-handed : (w : Written) → w ≡ record { number = step .number; len = step .len } → w ≡ unitHanded (unitStep a b store room f)
     unfolding unitHanded
     step-handed w k = rw (← e, ← q) k
 
-    pub step-kept : (p b′ : List ℕ) → p ≡ packedUnit (step .state) → b′ ≡ changedBy (step .number) p b → b′ ≡ unitKept (unitStep b store room f) b
+    pub step-kept : (p b′ : List ℕ) → p ≡ packedUnit (step .state) → b′ ≡ changedBy (step .number) p b → b′ ≡ unitKept (unitStep a b store room f) b
     unfolding unitKept
     step-kept p b′ i k = rw (← e, ← q, ← i) k
 
-  pub step-reply : (reply reply′ : List ℕ) → reply′ ≡ unitOut lab store u f reply → reply′ ≡ unitStepReply b store f reply
+  pub step-reply : (reply reply′ : List ℕ) → reply′ ≡ unitOutGiven a store u f reply → reply′ ≡ unitStepReply a b store f reply
   step-reply reply reply′ k = rw (← e) k
 
 -- a fresh unit, from the tests of the code
@@ -119,23 +123,35 @@ pub event-impossible : (roomLen outLen : ℕ) (b : List ℕ) → isTool b ≡ fa
 unfolding eventNumber tool-state.possible
 event-impossible roomLen outLen b h = rw (← tool-none b noTool h refl)
 
-pub begin-state : (step : ToolStep) (t : ToolState) (request : Request) (name : AnswerName) (out : ℕ) (b p : List ℕ) → t ≡ unpackedTool b
-    → step ≡ beginResult lab t request name out → p ≡ packedTool (step .state) → step .number ≡ 0
+-- the state bytes of a call that is not refused have the length of a state: of a begin whose result is made of r, and of an event
+pub begin-state : (a : Addresses) (step : ToolStep) (t : ToolState) (request : Request) (name : AnswerName) (out : ℕ) (b p : List ℕ) → t ≡ unpackedTool b
+    → step ≡ beginResultGiven a t request name out → p ≡ packedTool (step .state) → step .number ≡ 0
     → length b ≡ length p
-unfolding beginResult
-begin-state step t request name out b p e q k n =
+unfolding beginResultGiven beginResult
+begin-state a step t request name out b p e q k n =
+    let made : step ≡ beginResult a t request name out = taken-given a _ _ step (λ (s : ToolStep). s .number) (λ z. omega arith) q n in
     rw (k, length-tool (step .state))
     (turn-taken (isTool b) (beginNumber (unpackedTool b) request name out) (requestNumber request name) 15 b (tool-size b) (begin-impossible request name out b)
-    (rw (← e) (ap (λ (s : ToolStep). s .number) (sym q) ∙ n)))
+    (rw (← e) (ap (λ (s : ToolStep). s .number) (sym made) ∙ n)))
 
-pub event-state : (step : ToolStep) (t : ToolState) (m : Meaning) (new roomLen outLen : ℕ) (b p : List ℕ) → t ≡ unpackedTool b
-    → step ≡ eventResult lab t m new roomLen outLen → p ≡ packedTool (step .state) → step .number ≡ 0
+event-state : (a : Addresses) (step : ToolStep) (t : ToolState) (m : Meaning) (new roomLen outLen : ℕ) (b p : List ℕ) → t ≡ unpackedTool b
+    → step ≡ eventResult a t m new roomLen outLen → p ≡ packedTool (step .state) → step .number ≡ 0
     → length b ≡ length p
 unfolding eventResult
-event-state step t m new roomLen outLen b p e q k n =
+event-state a step t m new roomLen outLen b p e q k n =
     rw (k, length-tool (step .state))
     (turn-taken (isTool b) (eventNumber (unpackedTool b) roomLen outLen) 0 15 b (tool-size b) (event-impossible roomLen outLen b)
     (rw (← e) (ap (λ (s : ToolStep). s .number) (sym q) ∙ n)))
+
+module _ (a : Addresses) (step : ToolStep) (t : ToolState) (roomLen outLen : ℕ) (b p : List ℕ) (e : t ≡ unpackedTool b) where
+  pub arrival-state : (f : List ℕ) → step ≡ arrivalResultGiven a t f roomLen outLen → p ≡ packedTool (step .state) → step .number ≡ 0
+      → length b ≡ length p
+  unfolding eventResultGiven
+  arrival-state f q k n = event-state a step t _ _ roomLen outLen b p e (taken-given a _ _ step (λ (s : ToolStep). s .number) (λ z. omega arith) q n) k n
+
+  pub wait-state : step ≡ waitResultGiven a t roomLen outLen → p ≡ packedTool (step .state) → step .number ≡ 0 → length b ≡ length p
+  unfolding eventResultGiven
+  wait-state q k n = event-state a step t _ _ roomLen outLen b p e (taken-given a _ _ step (λ (s : ToolStep). s .number) (λ z. omega arith) q n) k n
 
 -- a step, as the call on packed bytes that it is
 module _ (step called : ToolStep) (is : step ≡ called) where
@@ -148,45 +164,60 @@ module _ (step called : ToolStep) (is : step ≡ called) where
   tool-kept p b b′ i k = rw (← is, ← i) k
 
 -- an event on the state t that the bytes are
-module _ (b : List ℕ) (t : ToolState) (e : t ≡ unpackedTool b) where
-  pub arrival-called : (step : ToolStep) (f : List ℕ) (roomLen outLen : ℕ) → step ≡ arrivalResult lab t f roomLen outLen → step ≡ toolArrival b f roomLen outLen
+module _ (a : Addresses) (b : List ℕ) (t : ToolState) (e : t ≡ unpackedTool b) where
+  pub arrival-called : (step : ToolStep) (f : List ℕ) (roomLen outLen : ℕ) → step ≡ arrivalResultGiven a t f roomLen outLen
+      → step ≡ toolArrival a b f roomLen outLen
   arrival-called step f roomLen outLen q = rw (← e) q
 
-  pub wait-called : (step : ToolStep) (roomLen outLen : ℕ) → step ≡ waitResult lab t roomLen outLen → step ≡ toolWait b roomLen outLen
+  pub wait-called : (step : ToolStep) (roomLen outLen : ℕ) → step ≡ waitResultGiven a t roomLen outLen → step ≡ toolWait a b roomLen outLen
   wait-called step roomLen outLen q = rw (← e) q
 
-  pub arrival-room : (f : List ℕ) (out : ℕ) (room room′ : List ℕ) → room′ ≡ arrivalRoom lab t f out room → room′ ≡ toolArrivalRoom b f out room
+  pub arrival-room : (f : List ℕ) (out : ℕ) (room room′ : List ℕ) → room′ ≡ arrivalRoomGiven a t f out room → room′ ≡ toolArrivalRoom a b f out room
   arrival-room f out room room′ k = rw (← e) k
 
-  pub arrival-out : (f : List ℕ) (room : ℕ) (out out′ : List ℕ) → out′ ≡ arrivalOut lab t f room out → out′ ≡ toolArrivalOut b f room out
+  pub arrival-out : (f : List ℕ) (room : ℕ) (out out′ : List ℕ) → out′ ≡ arrivalOutGiven a t f room out → out′ ≡ toolArrivalOut a b f room out
   arrival-out f room out out′ k = rw (← e) k
 
-  pub wait-out : (room : ℕ) (out out′ : List ℕ) → out′ ≡ waitOut lab t room out → out′ ≡ toolWaitOut b room out
+  pub wait-out : (room : ℕ) (out out′ : List ℕ) → out′ ≡ waitOutGiven a t room out → out′ ≡ toolWaitOut a b room out
   wait-out room out out′ k = rw (← e) k
 
--- a begin, from the test of its request
-module _ (b : List ℕ) (request : ℕ) (name : AnswerName) where
-  module _ (h : 5 < request) (out : ℕ) where
-    pub begin-none : _≡_ {A = Written} (record { number = 12; len = 0 }) (toolHanded (toolBegin b request name out))
+-- a begin, from the tests of its addresses and its request
+module _ (a : Addresses) (b : List ℕ) (request : ℕ) (name : AnswerName) where
+  module _ (same : a .unit ≡ a .tool) (out : ℕ) where
+    pub begin-equal : _≡_ {A = Written} (record { number = 2; len = 0 }) (toolHanded (toolBegin a b request name out))
     unfolding toolBegin toolHanded
-    begin-none = rw (lt-leb request 5 h)
+    begin-equal = rw (equal-ones a same)
 
-    pub begin-none-kept : b ≡ toolKept (toolBegin b request name out) b
+    pub begin-equal-kept : b ≡ toolKept (toolBegin a b request name out) b
     unfolding toolBegin toolKept
-    begin-none-kept = rw (lt-leb request 5 h)
+    begin-equal-kept = rw (equal-ones a same)
 
-  pub begin-none-out : (out : List ℕ) → 5 < request → out ≡ toolBeginOut b request name out
+  pub begin-equal-out : (out : List ℕ) → a .unit ≡ a .tool → out ≡ toolBeginOut a b request name out
   unfolding toolBeginOut
-  begin-none-out out h = rw (lt-leb request 5 h)
+  begin-equal-out out same = rw (equal-ones a same)
 
-  module _ (h : request ≤ 5) (t : ToolState) (r : Request) (e : t ≡ unpackedTool b) (q : r ≡ requestFrom request) where
-    pub begin-called : (step : ToolStep) (out : ℕ) → step ≡ beginResult lab t r name out → step ≡ toolBegin b request name out
-    unfolding toolBegin
-    begin-called step out s = rw (le-leb request 5 h, ← e, ← q) s
+  module _ (other : a .unit ≡ a .tool → ⊥) where
+    module _ (h : 5 < request) (out : ℕ) where
+      pub begin-none : _≡_ {A = Written} (record { number = 12; len = 0 }) (toolHanded (toolBegin a b request name out))
+      unfolding toolBegin toolHanded
+      begin-none = rw (different-ones a other, lt-leb request 5 h)
 
-    pub begin-out : (out out′ : List ℕ) → out′ ≡ beginOut lab t r name out → out′ ≡ toolBeginOut b request name out
+      pub begin-none-kept : b ≡ toolKept (toolBegin a b request name out) b
+      unfolding toolBegin toolKept
+      begin-none-kept = rw (different-ones a other, lt-leb request 5 h)
+
+    pub begin-none-out : (out : List ℕ) → 5 < request → out ≡ toolBeginOut a b request name out
     unfolding toolBeginOut
-    begin-out out out′ s = rw (le-leb request 5 h, ← e, ← q) s
+    begin-none-out out h = rw (different-ones a other, lt-leb request 5 h)
+
+    module _ (h : request ≤ 5) (t : ToolState) (r : Request) (e : t ≡ unpackedTool b) (q : r ≡ requestFrom request) where
+      pub begin-called : (step : ToolStep) (out : ℕ) → step ≡ beginResultGiven a t r name out → step ≡ toolBegin a b request name out
+      unfolding toolBegin beginResultGiven
+      begin-called step out s = rw (le-leb request 5 h, ← e, ← q) s
+
+      pub begin-out : (out out′ : List ℕ) → out′ ≡ beginOutGiven a t r name out → out′ ≡ toolBeginOut a b request name out
+      unfolding toolBeginOut beginOutGiven
+      begin-out out out′ s = rw (le-leb request 5 h, ← e, ← q) s
 
 -- a fresh tool, from the test of the code
 module _ (b : List ℕ) where

@@ -1,7 +1,10 @@
 -- Demand 3 over the packed ends: the facts hold of them, so the line's laws do; and what they say of the packed states, the unpacked ones are.
+use mathlib.Core.Bool.{true}
 use mathlib.Core.List.{List}
 use mathlib.Core.Path.{_≡_, refl, ap, _∙_}
-use Rattle.frame.specs.Frame.{lab}
+use Rattle.frame.specs.declared.Addresses.{Addresses}
+use Rattle.frame.specs.Given.{different}
+use Rattle.frame.proofs.GivenLaws.{different-ones}
 use Rattle.tool.proofs.BoundLaws as toolBounds
 use Rattle.states.specs.Packed.{packedUnit, unpackedUnit, packedTool, unpackedTool}
 use Rattle.line.specs.Line.{Event}
@@ -29,19 +32,19 @@ unpackedTools t = record { state = unpackedTool (t .state); room = t .room }
 read : (b : ToolBytes) (t : ToolRoom) → toolBounds.Fits (t .state) → b ≡ toolBytes t → unpackedTools b ≡ t
 read b t f e = rw (e, tool-returns (t .state) f)
 
-module _ (g : Premises) (bytes : StateBytes g) (es : List (Event packedEnds))
-    (o : AllAllowed packedEnds (packedTransfer g bytes) es (packedStart g bytes .system)) where
+module _ (a : Addresses) (two : different a ≡ true) (g : Premises) (bytes : StateBytes g) (es : List (Event packedEnds))
+    (o : AllAllowed packedEnds (packedTransfer a g bytes) es (packedStart a g bytes .system)) where
   abbrev after : Run packedEnds
-  after = packedRun g bytes es
+  after = packedRun a g bytes es
 
-  claimed : AfterAllowed packedEnds (packedTransfer g bytes) after
-  claimed = laws.after-allowed packedEnds (packedTransfer g bytes) (packedFacts g bytes) es o
+  claimed : AfterAllowed packedEnds (packedTransfer a g bytes) after
+  claimed = laws.after-allowed packedEnds (packedTransfer a g bytes) (packedFacts a two g bytes) es o
 
-  agreed : claims.EndsAgree packedEnds (packedTransfer g bytes) (packedFacts g bytes) after
-  agreed = laws.agrees packedEnds (packedTransfer g bytes) (packedFacts g bytes) es o
+  agreed : claims.EndsAgree packedEnds (packedTransfer a g bytes) (packedFacts a two g bytes) after
+  agreed = laws.agrees packedEnds (packedTransfer a g bytes) (packedFacts a two g bytes) es o
 
   -- book, counts and queues are those of the unpacked run
-  claimed-unpacked : AfterAllowed (cableEnds lab) (transfer lab g) (unpackedRun after)
+  claimed-unpacked : AfterAllowed cableEnds (transfer a g) (unpackedRun after)
   claimed-unpacked =
       record {
         takenAtMost = claimed .takenAtMost;
@@ -61,10 +64,10 @@ module _ (g : Premises) (bytes : StateBytes g) (es : List (Event packedEnds))
 
   -- and the tool's bytes are read as the tool that the book has
   tool-unpacked : (outcome : books.Outcome)
-      → ToolAs packedEnds (packedTransfer g bytes) (packedFacts g bytes) (after .system .tool) (after .system .putOut) (after .putOutBefore)
+      → ToolAs packedEnds (packedTransfer a g bytes) (packedFacts a two g bytes) (after .system .tool) (after .system .putOut) (after .putOutBefore)
       (after .book .taken)
       (after .book .failed) (after .book .timeAsked) outcome
-      → ToolAs (cableEnds lab) (transfer lab g) (theorem.facts lab g) (unpackedRun after .system .tool) (after .system .putOut) (after .putOutBefore)
+      → ToolAs cableEnds (transfer a g) (theorem.facts a two g) (unpackedRun after .system .tool) (after .system .putOut) (after .putOutBefore)
       (after .book .taken)
       (after .book .failed) (after .book .timeAsked) outcome
   unfolding packedFacts theorem.facts
@@ -87,16 +90,16 @@ module _ (g : Premises) (bytes : StateBytes g) (es : List (Event packedEnds))
       read (after .system .tool) (tools.noAnswerTool g (after .book .taken)) (no-answer-fits g bytes (after .book .taken) (claimed .takenAtMost)) t
 
   -- so are the unit's
-  unit-unpacked : theorem.UnitAt lab g (unpackedRun after)
+  unit-unpacked : theorem.UnitAt a two g (unpackedRun after)
   unfolding packedFacts
   unit-unpacked =
       let u : after .system .unit ≡ packedUnit (units.unitAfter g (agreed .last)) = agreed .unit in
       record { last = agreed .last; most = agreed .bounds .sent; is = ap unpackedUnit u ∙ unit-after-returns g bytes (agreed .last) (agreed .bounds .sent) }
 
-  pub allowed : Agrees lab g (unpackedRun after)
+  pub allowed : Agrees a g (unpackedRun after)
   allowed =
-      theorem.agrees-at lab g (unpackedRun after)
-      (theorem.tool-at lab g (unpackedRun after) (after .book .outcome) refl (tool-unpacked (after .book .outcome) (agreed .tool)) claimed-unpacked)
+      theorem.agrees-at a two g (unpackedRun after)
+      (theorem.tool-at a two g (unpackedRun after) (after .book .outcome) refl (tool-unpacked (after .book .outcome) (agreed .tool)) claimed-unpacked)
       unit-unpacked
       claimed-unpacked
 
@@ -111,7 +114,7 @@ module _ (g : Premises) (bytes : StateBytes g) (es : List (Event packedEnds))
   packs-again b t f e = rw (e, tool-returns (t .state) f)
 
   tool-packs : (outcome : books.Outcome)
-      → ToolAs packedEnds (packedTransfer g bytes) (packedFacts g bytes) (after .system .tool) (after .system .putOut) (after .putOutBefore)
+      → ToolAs packedEnds (packedTransfer a g bytes) (packedFacts a two g bytes) (after .system .tool) (after .system .putOut) (after .putOutBefore)
       (after .book .taken)
       (after .book .failed) (after .book .timeAsked) outcome
       → after .system .tool .state ≡ packedTool (unpackedTool (after .system .tool .state))
@@ -128,15 +131,15 @@ module _ (g : Premises) (bytes : StateBytes g) (es : List (Event packedEnds))
   pub packs : Packs (after .system)
   packs = record { unit = unit-packs; tool = tool-packs (after .book .outcome) (agreed .tool) }
 
-module _ (g : Premises) (bytes : StateBytes g) (es : List (Event packedEnds))
-    (o : AllClean packedEnds (packedTransfer g bytes) es (packedStart g bytes .system)) where
-  clean-after : AfterClean packedEnds (packedTransfer g bytes) (packedRun g bytes es)
-  clean-after = cleanLaws.after-clean packedEnds (packedTransfer g bytes) (packedFacts g bytes) es o
+module _ (a : Addresses) (two : different a ≡ true) (g : Premises) (bytes : StateBytes g) (es : List (Event packedEnds))
+    (o : AllClean packedEnds (packedTransfer a g bytes) es (packedStart a g bytes .system)) where
+  clean-after : AfterClean packedEnds (packedTransfer a g bytes) (packedRun a g bytes es)
+  clean-after = cleanLaws.after-clean packedEnds (packedTransfer a g bytes) (packedFacts a two g bytes) es o
 
-  clean : AgreesClean lab g (unpackedRun (packedRun g bytes es))
+  clean : AgreesClean a g (unpackedRun (packedRun a g bytes es))
   clean =
-      theorem.clean-at lab g (unpackedRun (packedRun g bytes es))
-      (allowed g bytes es (cleanLaws.all-clean-allowed packedEnds (packedTransfer g bytes) es (packedStart g bytes .system) o))
+      theorem.clean-at a two g (unpackedRun (packedRun a g bytes es))
+      (allowed a two g bytes es (cleanLaws.all-clean-allowed packedEnds (packedTransfer a g bytes) es (packedStart a g bytes .system) o))
       (record {
         doneAtArrival = clean-after .doneAtArrival;
         neverNoAnswer = clean-after .neverNoAnswer;
@@ -148,4 +151,6 @@ module _ (g : Premises) (bytes : StateBytes g) (es : List (Event packedEnds))
 
 -- one claim about every list of calls that a C host makes
 pub packedDemand3 : PackedDemand3
-packedDemand3 g bytes es = record { allowed = allowed g bytes es; clean = clean g bytes es; packs = packs g bytes es }
+packedDemand3 a n g bytes es =
+    let two = different-ones a n in
+    record { allowed = allowed a two g bytes es; clean = clean a two g bytes es; packs = packs a two g bytes es }

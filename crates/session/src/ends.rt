@@ -1,6 +1,7 @@
 // Both ends, a frame and its reply at a time. Every second reply of 260 bytes is lost, and the wait for it ends.
 use crate::print;
 use catalog::AnswerName;
+use frame::LAB;
 use octets::Place;
 use progress::Outcome;
 use progress::Request;
@@ -40,6 +41,7 @@ fn exchange(s: Session, store: &[u8], room: &mut [u8], out: &mut [u8]) -> Sessio
     let unit = s.unit;
     let tool = s.tool;
     let heard = unit::call::step(
+        LAB,
         unit,
         store,
         octets::buffer::part(out, front(s.len)),
@@ -51,7 +53,7 @@ fn exchange(s: Session, store: &[u8], room: &mut [u8], out: &mut [u8]) -> Sessio
     let calls = s.calls % 1000 + 1;
     if heard.len == 260 && calls % 2 == 0 {
         print::text(b" lost");
-        let waited = tool::call::wait_ended(tool, room, out);
+        let waited = tool::call::wait_ended(LAB, tool, room, out);
         let left = waited.state;
         return Session {
             unit: next,
@@ -61,7 +63,7 @@ fn exchange(s: Session, store: &[u8], room: &mut [u8], out: &mut [u8]) -> Sessio
         };
     }
     let string = octets::buffer::part(&reply, front(heard.len));
-    let stepped = tool::call::arrived(tool, string, room, out);
+    let stepped = tool::call::arrived(LAB, tool, string, room, out);
     let left = stepped.state;
     Session {
         unit: next,
@@ -98,7 +100,7 @@ pub(crate) fn run(
     let mut out = [0u8; 260];
     let unit = s.unit;
     let tool = s.tool;
-    let begun = tool::call::begin(tool, request, name, &mut out);
+    let begun = tool::call::begin(LAB, tool, request, name, &mut out);
     let waiting = begun.state;
     let session = Session {
         unit,

@@ -2,13 +2,17 @@
 -- data. proofs/Claims.antt proves it.
 use Prim.Native.Nat.{ℕ, _+_, _/_, _%_, _<_, _≤_}
 use mathlib.Core.List.{List}
+use mathlib.Core.Logic.{_≢_}
 use mathlib.Core.Path.{_≡_}
 use lib.ListN.{length}
 use Rattle.octets.specs.Numbers.{done, overBound}
 use Rattle.frame.specs.declared.Addresses.{Addresses}
 use Rattle.frame.specs.declared.End.the-variants as ends
 use Rattle.frame.specs.Frame.{judged, dataOf}
+use Rattle.frame.specs.Given.{refusedWrite}
+use Rattle.frame.specs.Readdressed.{readdressed}
 use Rattle.split.specs.Split.{dataMost, countOf, subMessages, subField, subFrame}
+use Rattle.split.specs.Split.{subResult, subOut, subResultGiven, subOutGiven}
 use Rattle.split.specs.Join.{messageIn, complete, framesOf, joinedFrames}
 
 pub record SplitClaims : Type 0 where
@@ -39,3 +43,19 @@ pub record SplitClaims : Type 0 where
   -- "59,998 data bytes make 240 sub messages ..; one byte more is 8"
   pub mostData : subMessages 59998 ≡ record { number = done; count = 240 }
   pub oneMore : subMessages 59999 ≡ record { number = overBound; count = 0 }
+
+-- The call that writes a sub message, with both addresses as given (document 02, Req 05)
+pub record SubGivenClaims : Type 0 where
+  -- "two equal ones are 2 .., before any other check", and nothing is written
+  pub equal : (a : Addresses) → a .unit ≡ a .tool → (trep k : ℕ) (d : List ℕ) (outLen : ℕ)
+      → subResultGiven a trep k d outLen ≡ refusedWrite
+  pub equalOut : (a : Addresses) → a .unit ≡ a .tool → (trep k : ℕ) (d out : List ℕ)
+      → subOutGiven a trep k d out ≡ out
+  -- at two different ones the call is the one of document 01
+  pub different : (a : Addresses) → a .unit ≢ a .tool → (trep k : ℕ) (d : List ℕ) (outLen : ℕ)
+      → subResultGiven a trep k d outLen ≡ subResult trep k d outLen
+  pub differentOut : (a : Addresses) → a .unit ≢ a .tool → (trep k : ℕ) (d out : List ℕ)
+      → subOutGiven a trep k d out ≡ subOut a trep k d out
+  -- a sub message at other addresses
+  pub sameFrame : (a b : Addresses) (trep k : ℕ) (d : List ℕ)
+      → readdressed a b ends.Tool (subFrame a trep k d) ≡ subFrame b trep k d

@@ -14,6 +14,7 @@ use Rattle.octets.specs.declared.Counted.{Counted}
 use Rattle.frame.specs.declared.Addresses.{Addresses}
 use Rattle.frame.specs.declared.End.the-variants as ends
 use Rattle.frame.specs.Frame.{frameOf}
+use Rattle.frame.specs.Given.{different, refusedWrite}
 
 -- "data to split has over 59,998 bytes" is 8
 abbrev pub dataMost : ℕ
@@ -72,3 +73,10 @@ subResult trep k d outLen = writtenBy (subNumber trep k d outLen) (length (subFi
 
 unfoldable pub subOut : Addresses → ℕ → ℕ → List ℕ → List ℕ → List ℕ
 subOut a trep k d out = changedBy (subNumber trep k d (length out)) (front (subFrame a trep k d) out) out
+
+-- the call with both addresses as given: "two equal ones are 2 .., before any other check" (document 02, Req 05)
+unfoldable pub subResultGiven : Addresses → ℕ → ℕ → List ℕ → ℕ → Written
+subResultGiven a trep k d outLen = unless (different a) refusedWrite (subResult trep k d outLen)
+
+unfoldable pub subOutGiven : Addresses → ℕ → ℕ → List ℕ → List ℕ → List ℕ
+subOutGiven a trep k d out = unless (different a) out (subOut a trep k d out)

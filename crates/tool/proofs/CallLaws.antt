@@ -1,6 +1,6 @@
 -- The calls: their numbers from the tests of the code, and what they hand back.
 use Prim.Native.Nat.{ℕ, _+_, _<_, _≤_}
-use mathlib.Core.Bool.{true, false, not, _&&_}
+use mathlib.Core.Bool.{Bool, true, false, not, _&&_}
 use mathlib.Core.List.{List, []}
 use mathlib.Core.Path.{_≡_, refl, sym, ap, _∙_}
 use native.Mathlib.Omega.{arith}
@@ -14,6 +14,7 @@ use Rattle.octets.proofs.CallLaws.{kept-by, changed-by}
 use Rattle.octets.proofs.Tests.{and-left, and-right}
 use Rattle.frame.specs.declared.Addresses.{Addresses}
 use Rattle.frame.specs.Frame.{dataOf}
+use Rattle.frame.specs.Given.{different}
 use Rattle.catalog.specs.Name.{nameNumber}
 use Rattle.catalog.specs.declared.AnswerName.{AnswerName}
 use Rattle.progress.specs.declared.Request.{Request}
@@ -25,7 +26,8 @@ use Rattle.progress.specs.State.{heldMost, isTransfer, isWaiting, possible}
 use Rattle.arrival.specs.Meaning.{newBytes, arrivalBytes, arrivalOf}
 use Rattle.arrival.specs.Meaning.{takes}
 use Rattle.tool.specs.After.{roomAfter}
-use Rattle.tool.specs.Call.{requestNumber, beginNumber, eventNumber, eventResult, eventOut, eventRoom, arrivalResult, arrivalRoom, arrivalOut}
+use Rattle.tool.specs.Call.{requestNumber, beginNumber, eventNumber, eventResult, eventRoom, eventResultGiven, eventRoomGiven, eventOutGiven}
+use Rattle.tool.specs.Call.{arrivalResultGiven, arrivalRoomGiven, arrivalOutGiven}
 use Rattle.progress.proofs.StateLaws.{waiting-transfer}
 use Rattle.arrival.proofs.RoomLaws.{fits-in-room, fits-in-most}
 use Rattle.tool.proofs.TakenLaws.{Taken, taken}
@@ -137,13 +139,13 @@ module _ (a : Addresses) (t : ToolState) (b : List ℕ) (roomLen : ℕ) (x : Arr
   unfolding arrivalOf
   arrival-most k = rw is (fits-in-most roomLen t _ (taken-by k .fit))
 
-  pub arrival-result : (outLen : ℕ) (r : ToolStep) → r ≡ eventResult a t (x .meaning) (x .new) roomLen outLen → r ≡ arrivalResult a t b roomLen outLen
+  pub arrival-result : (outLen : ℕ) (r : ToolStep) → r ≡ eventResultGiven a t (x .meaning) (x .new) roomLen outLen → r ≡ arrivalResultGiven a t b roomLen outLen
   unfolding arrivalOf
-  arrival-result outLen r e = e ∙ ap (λ (y : Arrival). eventResult a t (y .meaning) (y .new) roomLen outLen) is
+  arrival-result outLen r e = e ∙ ap (λ (y : Arrival). eventResultGiven a t (y .meaning) (y .new) roomLen outLen) is
 
-  pub arrival-out : (o o′ : List ℕ) → o′ ≡ eventOut a t (x .meaning) roomLen o → o′ ≡ arrivalOut a t b roomLen o
+  pub arrival-out : (o o′ : List ℕ) → o′ ≡ eventOutGiven a t (x .meaning) roomLen o → o′ ≡ arrivalOutGiven a t b roomLen o
   unfolding arrivalOf
-  arrival-out o o′ e = e ∙ ap (λ (y : Arrival). eventOut a t (y .meaning) roomLen o) is
+  arrival-out o o′ e = e ∙ ap (λ (y : Arrival). eventOutGiven a t (y .meaning) roomLen o) is
 
   -- d is its data
   module _ (d : List ℕ) (part : d ≡ partAt (x .place .start) (x .place .len) b) where
@@ -154,24 +156,37 @@ module _ (a : Addresses) (t : ToolState) (b : List ℕ) (roomLen : ℕ) (x : Arr
     pub arrival-room : takes (x .meaning) ≡ true → t .held + length (newBytes t (x .received) d) ≤ roomLen
     arrival-room k = rw bytes-are (fits-in-room roomLen t _ (taken-by k .fit))
 
--- the room after a step s
+-- the room after a step s: kept where it is refused, by 2 or by the event's number
 module _ (a : Addresses) (t : ToolState) (b o : List ℕ) (outLen : ℕ) (x : Arrival) (is : x ≡ arrivalOf a (length o) t b) (s : ToolStep)
-    (e : s ≡ eventResult a t (x .meaning) (x .new) (length o) outLen) where
-  step-number : s .number ≡ eventNumber t (length o) outLen
-  unfolding eventResult
-  step-number = ap (λ (r : ToolStep). r .number) e
+    (e : s ≡ eventResultGiven a t (x .meaning) (x .new) (length o) outLen) where
+  step-number : different a ≡ true → s .number ≡ eventNumber t (length o) outLen
+  unfolding eventResultGiven eventResult
+  step-number d = ap (λ (r : ToolStep). r .number) (rw d at e)
 
-  pub arrived-kept : (s .number ≡ 0 → ⊥) → o ≡ arrivalRoom a t b outLen o
-  unfolding eventRoom
-  arrived-kept h = kept-by (s .number) _ _ o step-number h
+  equal-number : different a ≡ false → s .number ≡ 2
+  unfolding eventResultGiven
+  equal-number d = ap (λ (r : ToolStep). r .number) (rw d at e)
+
+  pub arrived-kept : (s .number ≡ 0 → ⊥) → o ≡ arrivalRoomGiven a t b outLen o
+  unfolding eventRoomGiven eventRoom
+  arrived-kept h = go (different a) refl
+    where
+      go : (d : Bool) → different a ≡ d → o ≡ arrivalRoomGiven a t b outLen o
+      go true q = rw q (kept-by (s .number) _ _ o (step-number q) h)
+      go false q = rw q
 
   pub arrived-taken : (d o′ : List ℕ) → s .number ≡ 0 → d ≡ partAt (x .place .start) (x .place .len) b
-      → o′ ≡ roomAfter t (x .meaning) (newBytes t (x .received) d) o → o′ ≡ arrivalRoom a t b outLen o
-  unfolding eventRoom arrivalOf
-  arrived-taken d o′ z part q =
-      changed-by (s .number) _ o′ _ o step-number z
-      (q ∙ ap (λ (v : List ℕ). roomAfter t (x .meaning) v o) (bytes-are a t b (length o) x is d part)
-      ∙ ap (λ (y : Arrival). roomAfter t (y .meaning) (arrivalBytes a t b) o) is)
+      → o′ ≡ roomAfter t (x .meaning) (newBytes t (x .received) d) o → o′ ≡ arrivalRoomGiven a t b outLen o
+  unfolding eventRoomGiven eventRoom arrivalOf
+  arrived-taken d o′ z part q = go (different a) refl
+    where
+      go : (y : Bool) → different a ≡ y → o′ ≡ arrivalRoomGiven a t b outLen o
+      go true p =
+          rw p
+          (changed-by (s .number) _ o′ _ o (step-number p) z
+          (q ∙ ap (λ (v : List ℕ). roomAfter t (x .meaning) v o) (bytes-are a t b (length o) x is d part)
+          ∙ ap (λ (y : Arrival). roomAfter t (y .meaning) (arrivalBytes a t b) o) is))
+      go false p = absurd (omega (arith, equal-number p))
 
 -- What a call hands back
 

@@ -4,4 +4,5 @@ pub mod TakenLaws
 pub mod AfterLaws
 pub mod CallLaws
 pub mod BoundLaws
+pub mod Given
 pub mod Days

@@ -5,8 +5,9 @@ use mathlib.Core.List.{List, []}
 use lib.ListN.{length}
 use lib.Dec.{eqb, leb}
 use Rattle.frame.specs.Frame.{frameMost}
+use Rattle.frame.specs.Given.{different}
 use Rattle.octets.specs.Order.{unless, orElse}
-use Rattle.octets.specs.Numbers.{done, bufferShort, outOfTurn, notInTable, changedBy}
+use Rattle.octets.specs.Numbers.{done, formatOrAddress, bufferShort, outOfTurn, notInTable, changedBy}
 use Rattle.octets.specs.Buffer.{front}
 use Rattle.frame.specs.declared.Addresses.{Addresses}
 use Rattle.catalog.specs.Name.{nameNumber}
@@ -109,3 +110,45 @@ waitResult a t roomLen outLen = eventResult a t FailedWait 0 roomLen outLen
 
 abbrev pub waitOut : Addresses → ToolState → ℕ → List ℕ → List ℕ
 waitOut a t roomLen out = eventOut a t FailedWait roomLen out
+
+-- The calls with both addresses as given: "two equal ones are 2 in every call with them, before any other check"
+-- (document 02, Req 05). The call is refused, so there is no event and no sending is counted.
+
+abbrev pub refusedTool : ToolState → ToolStep
+refusedTool t = record { number = formatOrAddress; state = t; len = 0 }
+
+unfoldable pub beginResultGiven : Addresses → ToolState → Request → AnswerName → ℕ → ToolStep
+beginResultGiven a t request name outLen =
+    unless (different a) (refusedTool t) (beginResult a t request name outLen)
+
+unfoldable pub beginOutGiven : Addresses → ToolState → Request → AnswerName → List ℕ → List ℕ
+beginOutGiven a t request name out = unless (different a) out (beginOut a t request name out)
+
+unfoldable pub eventResultGiven : Addresses → ToolState → Meaning → ℕ → ℕ → ℕ → ToolStep
+eventResultGiven a t m n roomLen outLen =
+    unless (different a) (refusedTool t) (eventResult a t m n roomLen outLen)
+
+unfoldable pub eventRoomGiven : Addresses → ToolState → Meaning → List ℕ → ℕ → List ℕ → List ℕ
+eventRoomGiven a t m new outLen room = unless (different a) room (eventRoom t m new outLen room)
+
+unfoldable pub eventOutGiven : Addresses → ToolState → Meaning → ℕ → List ℕ → List ℕ
+eventOutGiven a t m roomLen out = unless (different a) out (eventOut a t m roomLen out)
+
+-- a string arrives
+abbrev pub arrivalResultGiven : Addresses → ToolState → List ℕ → ℕ → ℕ → ToolStep
+arrivalResultGiven a t b roomLen outLen =
+    eventResultGiven a t (arrivalMeaning a roomLen t b) (length (arrivalBytes a t b)) roomLen outLen
+
+abbrev pub arrivalRoomGiven : Addresses → ToolState → List ℕ → ℕ → List ℕ → List ℕ
+arrivalRoomGiven a t b outLen room =
+    eventRoomGiven a t (arrivalMeaning a (length room) t b) (arrivalBytes a t b) outLen room
+
+abbrev pub arrivalOutGiven : Addresses → ToolState → List ℕ → ℕ → List ℕ → List ℕ
+arrivalOutGiven a t b roomLen out = eventOutGiven a t (arrivalMeaning a roomLen t b) roomLen out
+
+-- a wait ends
+abbrev pub waitResultGiven : Addresses → ToolState → ℕ → ℕ → ToolStep
+waitResultGiven a t roomLen outLen = eventResultGiven a t FailedWait 0 roomLen outLen
+
+abbrev pub waitOutGiven : Addresses → ToolState → ℕ → List ℕ → List ℕ
+waitOutGiven a t roomLen out = eventOutGiven a t FailedWait roomLen out

@@ -1,5 +1,6 @@
 // What follows from an event: the next state, and the frame that goes out.
 use arrival::Meaning;
+use frame::Addresses;
 use progress::Outcome;
 use progress::ToolState;
 use split::SubMessage;
@@ -8,7 +9,7 @@ ghost use mathlib.Core.Bool.{true};
 ghost use Prim.Native.Nat.{_+_, _≤_, _<_};
 ghost use lib.ListN.{length};
 ghost use Rattle.octets.specs.Buffer.{front};
-ghost use Rattle.frame.specs.Frame.{frameMost, lab};
+ghost use Rattle.frame.specs.Frame.{frameMost};
 ghost use Rattle.progress.specs.State.{heldMost};
 ghost use Rattle.arrival.specs.Meaning.{takes};
 ghost use Rattle.tool.specs.After.{stateAfter, sentAfter};
@@ -47,11 +48,16 @@ pub(crate) fn state_after(state: ToolState, meaning: Meaning, new: usize) -> Too
 }
 
 // Writes the frame that goes out at the front of `out` and answers its length, 0 for none.
-pub(crate) fn write_sent(state: ToolState, meaning: Meaning, out: &mut [u8]) -> usize
+pub(crate) fn write_sent(
+    addresses: Addresses,
+    state: ToolState,
+    meaning: Meaning,
+    out: &mut [u8],
+) -> usize
     requires { ⌜ (takes meaning ≡ true → state .expected .0 < 65535) ⌝ }
     requires { ⌜ frameMost ≤ length (now out) ⌝ }
-    ensures { λ n. ⌜ n ≡ length (sentAfter lab state meaning) ⌝ }
-    ensures { λ _. ⌜ now (out .exit) ≡ front (sentAfter lab state meaning) (now (out .entry)) ⌝ }
+    ensures { λ n. ⌜ n ≡ length (sentAfter addresses state meaning) ⌝ }
+    ensures { λ _. ⌜ now (out .exit) ≡ front (sentAfter addresses state meaning) (now (out .entry)) ⌝ }
 {
     let request = state.request;
     let name = state.name;
@@ -62,18 +68,19 @@ pub(crate) fn write_sent(state: ToolState, meaning: Meaning, out: &mut [u8]) -> 
             if 3 <= state.sendings {
                 0
             } else {
-                requests::sent::write_request(request, name, expected, out).len
+                requests::sent::write_request(addresses, request, name, expected, out).len
             }
         }
         Meaning::Confirmed => 0,
         Meaning::WholeAnswer => 0,
         Meaning::SubMessageTaken => {
-            requests::sent::write_request(request, name, SubMessage(expected.0 + 1), out).len
+            let next = SubMessage(expected.0 + 1);
+            requests::sent::write_request(addresses, request, name, next, out).len
         }
         Meaning::LastTaken => 0,
         Meaning::NoRoomForAnswer => 0,
         Meaning::NoRoomForSubMessage => {
-            requests::sent::write_acknowledgement(split::codes::stop(), out).len
+            requests::sent::write_acknowledgement(addresses, split::codes::stop(), out).len
         }
         Meaning::RefusedBy(_) => 0,
     }

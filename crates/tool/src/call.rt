@@ -2,7 +2,9 @@
 use crate::ToolStep;
 use arrival::Meaning;
 use catalog::AnswerName;
+use frame::Addresses;
 use octets::numbers::BUFFER_SHORT;
+use octets::numbers::FORMAT_OR_ADDRESS;
 use octets::numbers::NOT_IN_TABLE;
 use octets::numbers::OUT_OF_TURN;
 use octets::wire::FRAME_MOST;
@@ -14,12 +16,13 @@ ghost use mathlib.Core.Path.{_≡_};
 ghost use mathlib.Core.Bool.{true};
 ghost use Prim.Native.Nat.{_+_, _≤_};
 ghost use lib.ListN.{length};
-ghost use Rattle.frame.specs.Frame.{lab};
 ghost use Rattle.progress.specs.State.{heldMost, isTransfer};
 ghost use Rattle.arrival.specs.Meaning.{takes};
-ghost use Rattle.tool.specs.Call.{requestNumber, beginNumber, begun, beginResult, beginOut};
-ghost use Rattle.tool.specs.Call.{eventNumber, eventResult, eventOut};
-ghost use Rattle.tool.specs.Call.{arrivalResult, arrivalRoom, arrivalOut, waitResult, waitOut};
+ghost use Rattle.tool.specs.Call.{requestNumber, beginNumber, begun};
+ghost use Rattle.tool.specs.Call.{eventNumber, eventResultGiven, eventOutGiven};
+ghost use Rattle.tool.specs.Call.{beginResultGiven, beginOutGiven};
+ghost use Rattle.tool.specs.Call.{arrivalResultGiven, arrivalRoomGiven, arrivalOutGiven};
+ghost use Rattle.tool.specs.Call.{waitResultGiven, waitOutGiven};
 
 fn request_number(request: Request, name: AnswerName) -> u8
     ensures { λ r. ⌜ r ≡ requestNumber request name ⌝ }
@@ -67,11 +70,25 @@ fn begun_state(request: Request, name: AnswerName) -> ToolState
     }
 }
 
-// Begins a request: its frame goes out and the tool waits. Refused by 12, 11 and 4, in this order.
-pub fn begin(state: ToolState, request: Request, name: AnswerName, out: &mut [u8]) -> ToolStep
-    ensures { λ r. ⌜ r ≡ beginResult lab state request name (length (now (out .entry))) ⌝ }
-    ensures { λ _. ⌜ now (out .exit) ≡ beginOut lab state request name (now (out .entry)) ⌝ }
+// Begins a request, with both addresses as given: its frame goes out and the tool waits. Refused by 2 (equal
+// addresses), 12, 11 and 4, in this order.
+pub fn begin(
+    addresses: Addresses,
+    state: ToolState,
+    request: Request,
+    name: AnswerName,
+    out: &mut [u8],
+) -> ToolStep
+    ensures { λ r. ⌜ r ≡ beginResultGiven addresses state request name (length (now (out .entry))) ⌝ }
+    ensures { λ _. ⌜ now (out .exit) ≡ beginOutGiven addresses state request name (now (out .entry)) ⌝ }
 {
+    if addresses.unit == addresses.tool {
+        return ToolStep {
+            number: FORMAT_OR_ADDRESS,
+            state,
+            len: 0,
+        };
+    }
     let number = begin_number(state, request, name, out.len());
     if number != 0 {
         return ToolStep {
@@ -80,7 +97,7 @@ pub fn begin(state: ToolState, request: Request, name: AnswerName, out: &mut [u8
             len: 0,
         };
     }
-    let written = requests::sent::write_request(request, name, SubMessage(1), out);
+    let written = requests::sent::write_request(addresses, request, name, SubMessage(1), out);
     ToolStep {
         number: 0,
         state: begun_state(request, name),
@@ -104,9 +121,11 @@ fn event_number(state: ToolState, room_len: usize, out_len: usize) -> u8
     0
 }
 
-// An event that means this: refused by 11 and 4, in this order, or the next state and the frame sent. Where bytes are
-// taken the request is a transfer, and their sum with those held is within bounds.
+// An event that means this, with both addresses as given: refused by 2 (equal addresses), 11 and 4, in this order, or
+// the next state and the frame sent. Where bytes are taken the request is a transfer, and their sum with those held is
+// within bounds.
 fn event_step(
+    addresses: Addresses,
     state: ToolState,
     meaning: Meaning,
     new: usize,
@@ -115,10 +134,17 @@ fn event_step(
 ) -> ToolStep
     requires { ⌜ (takes meaning ≡ true → isTransfer (state .request) ≡ true) ⌝ }
     requires { ⌜ (takes meaning ≡ true → state .held + new ≤ heldMost) ⌝ }
-    ensures { λ r. ⌜ r ≡ eventResult lab state meaning new «room_len» (length (now (out .entry))) ⌝ }
-    ensures { λ _. ⌜ now (out .exit) ≡ eventOut lab state meaning «room_len» (now (out .entry)) ⌝ }
+    ensures { λ r. ⌜ r ≡ eventResultGiven addresses state meaning new «room_len» (length (now (out .entry))) ⌝ }
+    ensures { λ _. ⌜ now (out .exit) ≡ eventOutGiven addresses state meaning «room_len» (now (out .entry)) ⌝ }
 {
     let kept = state;
+    if addresses.unit == addresses.tool {
+        return ToolStep {
+            number: FORMAT_OR_ADDRESS,
+            state, // no event, so no sending is counted
+            len: 0,
+        };
+    }
     let number = event_number(state, room_len, out.len());
     if number != 0 {
         return ToolStep {
@@ -127,7 +153,7 @@ fn event_step(
             len: 0,
         };
     }
-    let len = crate::after::write_sent(state, meaning, out);
+    let len = crate::after::write_sent(addresses, state, meaning, out);
     ToolStep {
         number: 0,
         state: crate::after::state_after(state, meaning, new),
@@ -136,30 +162,45 @@ fn event_step(
 }
 
 // A string arrives, good frame or not, at a tool with a room of this length: the step without the bytes taken.
-// Refused by 11 and 4, in this order.
-pub fn arrival_step(state: ToolState, frame: &[u8], room_len: usize, out: &mut [u8]) -> ToolStep
-    ensures { λ r. ⌜ r ≡ arrivalResult lab state (now (frame .entry)) «room_len» (length (now (out .entry))) ⌝ }
-    ensures { λ _. ⌜ now (out .exit) ≡ arrivalOut lab state (now (frame .entry)) «room_len» (now (out .entry)) ⌝ }
+// Refused by 2 (equal addresses), 11 and 4, in this order.
+pub fn arrival_step(
+    addresses: Addresses,
+    state: ToolState,
+    frame: &[u8],
+    room_len: usize,
+    out: &mut [u8],
+) -> ToolStep
+    ensures { λ r. ⌜ r ≡
+        arrivalResultGiven addresses state (now (frame .entry)) «room_len» (length (now (out .entry))) ⌝ }
+    ensures { λ _. ⌜ now (out .exit) ≡
+        arrivalOutGiven addresses state (now (frame .entry)) «room_len» (now (out .entry)) ⌝ }
 {
-    let arrival = arrival::event::arrival_of(state, frame, room_len);
+    let arrival = arrival::event::arrival_of(addresses, state, frame, room_len);
     let meaning = arrival.meaning;
-    event_step(state, meaning, arrival.new, room_len, out)
+    event_step(addresses, state, meaning, arrival.new, room_len, out)
 }
 
 // The same with the room itself, which takes the new bytes.
-pub fn arrived(state: ToolState, frame: &[u8], room: &mut [u8], out: &mut [u8]) -> ToolStep
+pub fn arrived(
+    addresses: Addresses,
+    state: ToolState,
+    frame: &[u8],
+    room: &mut [u8],
+    out: &mut [u8],
+) -> ToolStep
     ensures { λ r. ⌜ r ≡
-        arrivalResult lab state (now (frame .entry)) (length (now (room .entry))) (length (now (out .entry))) ⌝ }
+        arrivalResultGiven addresses state (now (frame .entry))
+        (length (now (room .entry))) (length (now (out .entry))) ⌝ }
     ensures { λ _. ⌜ now (room .exit) ≡
-        arrivalRoom lab state (now (frame .entry)) (length (now (out .entry))) (now (room .entry)) ⌝ }
+        arrivalRoomGiven addresses state (now (frame .entry)) (length (now (out .entry))) (now (room .entry)) ⌝ }
     ensures { λ _. ⌜ now (out .exit) ≡
-        arrivalOut lab state (now (frame .entry)) (length (now (room .entry))) (now (out .entry)) ⌝ }
+        arrivalOutGiven addresses state (now (frame .entry)) (length (now (room .entry))) (now (out .entry)) ⌝ }
 {
-    let arrival = arrival::event::arrival_of(state, frame, room.len());
+    let arrival = arrival::event::arrival_of(addresses, state, frame, room.len());
     let meaning = arrival.meaning;
     let received = arrival.received;
     let place = arrival.place;
-    let step = event_step(state, meaning, arrival.new, room.len(), out);
+    let step = event_step(addresses, state, meaning, arrival.new, room.len(), out);
     if step.number != 0 {
         return step;
     }
@@ -173,18 +214,26 @@ pub fn arrived(state: ToolState, frame: &[u8], room: &mut [u8], out: &mut [u8]) 
     step
 }
 
-// A wait ends without a frame, at a tool with a room of this length. Refused by 11 and 4, in this order.
-pub fn wait_step(state: ToolState, room_len: usize, out: &mut [u8]) -> ToolStep
-    ensures { λ r. ⌜ r ≡ waitResult lab state «room_len» (length (now (out .entry))) ⌝ }
-    ensures { λ _. ⌜ now (out .exit) ≡ waitOut lab state «room_len» (now (out .entry)) ⌝ }
+// A wait ends without a frame, at a tool with a room of this length. Refused by 2 (equal addresses), 11 and 4, in this
+// order.
+pub fn wait_step(
+    addresses: Addresses,
+    state: ToolState,
+    room_len: usize,
+    out: &mut [u8],
+) -> ToolStep
+    ensures { λ r. ⌜ r ≡ waitResultGiven addresses state «room_len» (length (now (out .entry))) ⌝ }
+    ensures { λ _. ⌜ now (out .exit) ≡ waitOutGiven addresses state «room_len» (now (out .entry)) ⌝ }
 {
-    event_step(state, Meaning::FailedWait, 0, room_len, out)
+    event_step(addresses, state, Meaning::FailedWait, 0, room_len, out)
 }
 
 // The same with the room itself, which is only looked at.
-pub fn wait_ended(state: ToolState, room: &[u8], out: &mut [u8]) -> ToolStep
-    ensures { λ r. ⌜ r ≡ waitResult lab state (length (now (room .entry))) (length (now (out .entry))) ⌝ }
-    ensures { λ _. ⌜ now (out .exit) ≡ waitOut lab state (length (now (room .entry))) (now (out .entry)) ⌝ }
+pub fn wait_ended(addresses: Addresses, state: ToolState, room: &[u8], out: &mut [u8]) -> ToolStep
+    ensures { λ r. ⌜ r ≡
+        waitResultGiven addresses state (length (now (room .entry))) (length (now (out .entry))) ⌝ }
+    ensures { λ _. ⌜ now (out .exit) ≡
+        waitOutGiven addresses state (length (now (room .entry))) (now (out .entry)) ⌝ }
 {
-    wait_step(state, room.len(), out)
+    wait_step(addresses, state, room.len(), out)
 }

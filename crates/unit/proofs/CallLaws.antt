@@ -1,21 +1,19 @@
 -- The call: what a frame asks for, and what the call hands back, from the tests of the code.
 use Prim.Native.Nat.{ℕ, _≤_}
 use mathlib.Core.Bool.{Bool, true, false, cond}
-use mathlib.Core.List.{List, [], _∷_}
+use mathlib.Core.List.{List, []}
 use mathlib.Core.Path.{_≡_, refl, sym, ap, _∙_}
-use native.Mathlib.Omega.{arith}
 use lib.Dec.{eqb, leb}
 use lib.ListN.{length, getD}
-use borrow.Author.Tests.{ne-eqb, leb-true, eqb-true}
+use borrow.Author.Tests.{eq-eqb, ne-eqb, leb-true}
 use Rattle.octets.specs.Order.{unless, orElse}
 use Rattle.octets.specs.Numbers.{changedBy}
-use Rattle.octets.specs.Buffer.{partAt, sameBytes, front}
+use Rattle.octets.specs.Buffer.{partAt, front}
 use Rattle.octets.specs.declared.Place.{Place}
 use Rattle.octets.proofs.OrderLaws.{Both, unless-is, or-zero}
-use Rattle.octets.proofs.Tests.{and-left, and-right}
+use Rattle.frame.specs.declared.Addresses.{Addresses}
 use Rattle.frame.specs.declared.End.the-variants as ends
-use Rattle.frame.specs.Frame.{lab, isStart, startRight, addressed, judged, dataPlace, dataOf}
-use Rattle.frame.proofs.CheckLaws.{good, good-sum, count-start}
+use Rattle.frame.specs.Frame.{isStart, judged, dataPlace, dataOf}
 use Rattle.catalog.specs.declared.AnswerName.{AnswerName}
 use Rattle.store.specs.Layout.{narrow}
 use Rattle.store.specs.Read.{lookupPlace, lookupBoth}
@@ -39,73 +37,34 @@ pub possible-sent : (s : List ℕ) (name : AnswerName) (place : Place) (u : Unit
 unfolding possible
 possible-sent s name place u r found e q = rw (← e, ← found) q
 
--- A good frame with first byte 81 is the start frame
-
-five : (b : List ℕ) → length b ≡ 5 → b ≡ getD b 0 0 ∷ getD b 1 0 ∷ getD b 2 0 ∷ getD b 3 0 ∷ getD b 4 0 ∷ []
-five [] e = absurd (omega arith)
-five (p ∷ []) e = absurd (omega arith)
-five (p ∷ q ∷ []) e = absurd (omega arith)
-five (p ∷ q ∷ r ∷ []) e = absurd (omega arith)
-five (p ∷ q ∷ r ∷ s ∷ []) e = absurd (omega arith)
-five (p ∷ q ∷ r ∷ s ∷ t ∷ []) e = refl
-five (p ∷ q ∷ r ∷ s ∷ t ∷ u ∷ b) e = absurd (omega arith)
-
-abbrev start : List ℕ
-start = 0x81 ∷ 0xEE ∷ 0xF0 ∷ 0x81 ∷ 0xE0 ∷ []
-
-start-only : (b : List ℕ) → judged lab ends.Unit b ≡ 0 → isStart b ≡ true → b ≡ start
-unfolding addressed startRight
-start-only b z h =
-    let g = good lab ends.Unit b z in
-    let n : length b ≡ 5 = count-start b (g .count) h in
-    let q = and-right (eqb (getD b 1 0) 0xEE) _ (g .address) in
-    let r : eqb (getD b 3 0) 0x81 ≡ true = rw h at (and-right (eqb (getD b 2 0) 0xF0) _ q) in
-    let b0 : getD b 0 0 ≡ 0x81 = eqb-true _ _ h in
-    let b1 : getD b 1 0 ≡ 0xEE = eqb-true _ _ (and-left (eqb (getD b 1 0) 0xEE) _ (g .address)) in
-    let b2 : getD b 2 0 ≡ 0xF0 = eqb-true _ _ (and-left (eqb (getD b 2 0) 0xF0) _ q) in
-    let b3 : getD b 3 0 ≡ 0x81 = eqb-true _ _ r in
-    let e : b ≡ 0x81 ∷ 0xEE ∷ 0xF0 ∷ 0x81 ∷ getD b 4 0 ∷ [] = five b n ∙ rw (b0, b1, b2, b3) in
-    let c : 0xE0 ≡ getD b 4 0 = rw (n, e) at (good-sum lab ends.Unit b z) in
-    e ∙ rw (← c)
-
-start-first : (b : List ℕ) → isStart b ≡ false → sameBytes b start ≡ false
-start-first [] h = refl
-start-first (x ∷ b) h = rw h
-
-pub start-same : (b : List ℕ) → judged lab ends.Unit b ≡ 0 → sameBytes b start ≡ isStart b
-start-same b z = go (isStart b) refl
-  where
-    go : (t : Bool) → isStart b ≡ t → sameBytes b start ≡ isStart b
-    go true e = rw (start-only b z e)
-    go false e = start-first b e ∙ sym e
-
--- The returns of the reaction to a good frame; r is whether it is the start frame, c whether the unit is closed
-module _ (sent asked : Place) (u : UnitState) (b : List ℕ) (r : Bool) (fair : judged lab ends.Unit b ≡ 0) (same : r ≡ sameBytes b start) where
-  is-start : r ≡ isStart b
-  is-start = same ∙ start-same b fair
-
-  pub reaction-start : r ≡ true → CommunicationStarted ≡ reactionAt lab sent asked u b
+-- The returns of the reaction to a good frame; r is its first byte, c whether the unit is closed
+module _ (a : Addresses) (sent asked : Place) (u : UnitState) (b : List ℕ) (r : ℕ) (first : r ≡ getD b 0 0) where
+  pub reaction-start : r ≡ 0x81 → CommunicationStarted ≡ reactionAt a sent asked u b
   unfolding reactionAt
-  reaction-start h = rw (← is-start, h)
+  reaction-start h = rw (eq-eqb (getD b 0 0) 0x81 (sym first ∙ h))
 
-  module _ (general : r ≡ false) (c : Bool) (closed : c ≡ isClosed (u .phase)) where
-    pub reaction-ignored : c ≡ true → Ignored ≡ reactionAt lab sent asked u b
-    unfolding reactionAt
-    reaction-ignored h = rw (← is-start, general, ← closed, h)
+  module _ (other : r ≡ 0x81 → ⊥) where
+    general : isStart b ≡ false
+    general = ne-eqb (getD b 0 0) 0x81 (λ e. other (first ∙ e))
 
-    pub reaction-data : (d : List ℕ) (x : Reaction) → c ≡ false → d ≡ dataOf lab ends.Unit b → x ≡ onData sent asked u d → x ≡ reactionAt lab sent asked u b
-    unfolding reactionAt
-    reaction-data d x h e q = rw (← is-start, general, ← closed, h, ← e) q
+    module _ (c : Bool) (closed : c ≡ isClosed (u .phase)) where
+      pub reaction-ignored : c ≡ true → Ignored ≡ reactionAt a sent asked u b
+      unfolding reactionAt
+      reaction-ignored h = rw (general, ← closed, h)
+
+      pub reaction-data : (d : List ℕ) (x : Reaction) → c ≡ false → d ≡ dataOf a ends.Unit b → x ≡ onData sent asked u d → x ≡ reactionAt a sent asked u b
+      unfolding reactionAt
+      reaction-data d x h e q = rw (general, ← closed, h, ← e) q
 
 -- A reaction that a number may hold back to silence: the state stays, and nothing is replied
 
-module _ (s : List ℕ) (u : UnitState) (x : Reaction) where
+module _ (a : Addresses) (s : List ℕ) (u : UnitState) (x : Reaction) where
   held-state : (t : Bool) → stateAfter u (cond t x Ignored) ≡ cond t (stateAfter u x) u
   unfolding stateAfter
   held-state true = refl
   held-state false = refl
 
-  held-reply : (t : Bool) → replyTo lab (replyData s (cond t x Ignored)) ≡ cond t (replyTo lab (replyData s x)) []
+  held-reply : (t : Bool) → replyTo a (replyData s (cond t x Ignored)) ≡ cond t (replyTo a (replyData s x)) []
   unfolding replyTo replyData
   held-reply true = refl
   held-reply false = refl
@@ -116,12 +75,12 @@ module _ (s : List ℕ) (u : UnitState) (x : Reaction) where
   held-piece false e = refl
 
 -- The frame of a call: place is where its data d lies
-module _ (b : List ℕ) (place : Place) (located : place ≡ dataPlace lab ends.Unit b) where
-  pub place-number : place .number ≡ judged lab ends.Unit b
+module _ (a : Addresses) (b : List ℕ) (place : Place) (located : place ≡ dataPlace a ends.Unit b) where
+  pub place-number : place .number ≡ judged a ends.Unit b
   unfolding dataPlace
   place-number = ap (λ (p : Place). p .number) located
 
-  pub place-data : (d : List ℕ) → d ≡ partAt (place .start) (place .len) b → d ≡ dataOf lab ends.Unit b
+  pub place-data : (d : List ℕ) → d ≡ partAt (place .start) (place .len) b → d ≡ dataOf a ends.Unit b
   unfolding dataOf
   place-data d e = e ∙ ap (λ (p : Place). partAt (p .start) (p .len) b) located
 
@@ -131,7 +90,8 @@ pub found-by : (s : List ℕ) (found : TwoPlaces) (sent asked : AnswerName) (pha
 found-by s found sent asked phase d e p q = e ∙ rw (p, q)
 
 -- The call on the data d of the frame b; found is what the store gave for the answer that is being sent and the one asked for
-module _ (s : List ℕ) (u : UnitState) (b d : List ℕ) (found : TwoPlaces) (given : found ≡ lookupBoth narrow (nameSent (u .phase)) (nameAsked d) s) where
+module _ (a : Addresses) (s : List ℕ) (u : UnitState) (b d : List ℕ) (found : TwoPlaces)
+    (given : found ≡ lookupBoth narrow (nameSent (u .phase)) (nameAsked d) s) where
   first-found : found .first ≡ lookupPlace narrow (nameSent (u .phase)) s
   first-found = ap (λ (p : TwoPlaces). p .first) given
 
@@ -140,14 +100,14 @@ module _ (s : List ℕ) (u : UnitState) (b d : List ℕ) (found : TwoPlaces) (gi
 
   -- n is the number before the frame's
   module _ (n room : ℕ) (number : n ≡ numberBefore (found .number) (possibleAt (found .first) u) room) where
-    numbered : orElse n (judged lab ends.Unit b) ≡ unitNumber lab s room u b
+    numbered : orElse n (judged a ends.Unit b) ≡ unitNumber a s room u b
     unfolding unitNumber
     numbered = rw (number, is-possible, given)
 
-    refused-number : (n ≡ 0 → ⊥) → unitNumber lab s room u b ≡ n
+    refused-number : (n ≡ 0 → ⊥) → unitNumber a s room u b ≡ n
     refused-number z = sym numbered ∙ rw (ne-eqb n 0 z)
 
-    pub result-refused : (n ≡ 0 → ⊥) → _≡_ {A = UnitReply} (record { number = n; state = u; len = 0 }) (unitResult lab s room u b)
+    pub result-refused : (n ≡ 0 → ⊥) → _≡_ {A = UnitReply} (record { number = n; state = u; len = 0 }) (unitResult a s room u b)
     unfolding unitResult unitState unitReply
     result-refused z = rw (refused-number z, ne-eqb n 0 z)
 
@@ -163,40 +123,40 @@ module _ (s : List ℕ) (u : UnitState) (b d : List ℕ) (found : TwoPlaces) (gi
       accepted-room = leb-true _ _ (unless-is (leb 260 room) 4 0 0 refl (accepted-possible .rest) .first)
 
       -- the reaction x; k is the number of the frame
-      module _ (k : ℕ) (x : Reaction) (reacts : x ≡ changedBy k (reactionAt lab (found .first) (found .second) u b) Ignored)
-          (data-is : d ≡ dataOf lab ends.Unit b) where
-        reaction-is : x ≡ changedBy k (reactionTo lab s u b) Ignored
+      module _ (k : ℕ) (x : Reaction) (reacts : x ≡ changedBy k (reactionAt a (found .first) (found .second) u b) Ignored)
+          (data-is : d ≡ dataOf a ends.Unit b) where
+        reaction-is : x ≡ changedBy k (reactionTo a s u b) Ignored
         unfolding reactionTo
         reaction-is = rw (reacts, given, data-is)
 
         pub accepted-piece : pieceSent s x ≡ 0
         accepted-piece =
             rw reaction-is
-            (held-piece s u (reactionTo lab s u b) (eqb k 0)
-            (sends-what-is s lab u b (sym is-possible ∙ accepted-possible .first)))
+            (held-piece a s u (reactionTo a s u b) (eqb k 0)
+            (sends-what-is s a u b (sym is-possible ∙ accepted-possible .first)))
 
-        module _ (judging : k ≡ judged lab ends.Unit b) where
-          accepted-number : unitNumber lab s room u b ≡ k
+        module _ (judging : k ≡ judged a ends.Unit b) where
+          accepted-number : unitNumber a s room u b ≡ k
           accepted-number = sym numbered ∙ rw (zero, judging)
 
-          replied : replyTo lab (replyData s x) ≡ unitReply lab s room u b
+          replied : replyTo a (replyData s x) ≡ unitReply a s room u b
           unfolding unitReply
-          replied = rw (reaction-is, accepted-number, held-reply s u (reactionTo lab s u b) (eqb k 0))
+          replied = rw (reaction-is, accepted-number, held-reply a s u (reactionTo a s u b) (eqb k 0))
 
-          pub result-done : (v : UnitState) (l : ℕ) → v ≡ stateAfter u x → l ≡ length (replyTo lab (replyData s x))
-              → _≡_ {A = UnitReply} (record { number = k; state = v; len = l }) (unitResult lab s room u b)
+          pub result-done : (v : UnitState) (l : ℕ) → v ≡ stateAfter u x → l ≡ length (replyTo a (replyData s x))
+              → _≡_ {A = UnitReply} (record { number = k; state = v; len = l }) (unitResult a s room u b)
           unfolding unitResult unitState
           result-done v l e f =
-              rw (f, replied, e, reaction-is, accepted-number, held-state s u (reactionTo lab s u b) (eqb k 0))
+              rw (f, replied, e, reaction-is, accepted-number, held-state a s u (reactionTo a s u b) (eqb k 0))
 
   -- the buffer o after it
   module _ (n : ℕ) (o : List ℕ) (number : n ≡ numberBefore (found .number) (possibleAt (found .first) u) (length o)) where
-    pub out-refused : (n ≡ 0 → ⊥) → o ≡ unitOut lab s u b o
+    pub out-refused : (n ≡ 0 → ⊥) → o ≡ unitOut a s u b o
     unfolding unitOut unitReply front
     out-refused z = rw (refused-number n (length o) number z, ne-eqb n 0 z)
 
-    pub out-done : (k : ℕ) (x : Reaction) (o′ : List ℕ) → n ≡ 0 → x ≡ changedBy k (reactionAt lab (found .first) (found .second) u b) Ignored
-        → d ≡ dataOf lab ends.Unit b → k ≡ judged lab ends.Unit b
-        → o′ ≡ front (replyTo lab (replyData s x)) o → o′ ≡ unitOut lab s u b o
+    pub out-done : (k : ℕ) (x : Reaction) (o′ : List ℕ) → n ≡ 0 → x ≡ changedBy k (reactionAt a (found .first) (found .second) u b) Ignored
+        → d ≡ dataOf a ends.Unit b → k ≡ judged a ends.Unit b
+        → o′ ≡ front (replyTo a (replyData s x)) o → o′ ≡ unitOut a s u b o
     unfolding unitOut
     out-done k x o′ zero reacts data-is judging e = e ∙ ap (λ (r : List ℕ). front r o) (replied n (length o) number zero k x reacts data-is judging)

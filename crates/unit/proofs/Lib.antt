@@ -4,4 +4,5 @@ pub mod SentLaws
 pub mod ReplyLaws
 pub mod CallLaws
 pub mod BoundLaws
+pub mod Given
 pub mod Days

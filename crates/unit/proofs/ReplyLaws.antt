@@ -12,7 +12,7 @@ use Rattle.octets.specs.declared.Place.{Place}
 use Rattle.octets.specs.declared.Written.{Written}
 use Rattle.frame.specs.declared.Addresses.{Addresses}
 use Rattle.frame.specs.declared.End.the-variants as ends
-use Rattle.frame.specs.Frame.{frameMost, lab, frameOf, writeResult, writeOut}
+use Rattle.frame.specs.Frame.{frameMost, frameOf, writeResult, writeOut}
 use Rattle.frame.proofs.WriteLaws.{length-frame, written-length, written-out}
 use Rattle.catalog.specs.declared.AnswerName.{AnswerName}
 use Rattle.split.specs.Split.{pieceNumber, subField, subFrame, subNumber, subResult, subOut}
@@ -34,15 +34,15 @@ reply-is a [] h = absurd (omega arith)
 reply-is a (x ∷ d) h = refl
 
 -- A frame written in a buffer of 260 bytes
-module _ (d o : List ℕ) (some : 0 < length d) (most : length d ≤ 255) (room : frameMost ≤ length o) where
-  pub sent-length : (w : Written) → w ≡ writeResult d (length o) → w .len ≡ length (replyTo lab d)
-  sent-length w e = rw (reply-is lab d some) (written-length lab ends.Tool d o some most room w e)
+module _ (a : Addresses) (d o : List ℕ) (some : 0 < length d) (most : length d ≤ 255) (room : frameMost ≤ length o) where
+  pub sent-length : (w : Written) → w ≡ writeResult d (length o) → w .len ≡ length (replyTo a d)
+  sent-length w e = rw (reply-is a d some) (written-length a ends.Tool d o some most room w e)
 
-  pub sent-out : (o′ : List ℕ) → o′ ≡ writeOut lab ends.Tool d o → o′ ≡ front (replyTo lab d) o
-  sent-out o′ e = rw (reply-is lab d some) (written-out lab ends.Tool d o some most room o′ e)
+  pub sent-out : (o′ : List ℕ) → o′ ≡ writeOut a ends.Tool d o → o′ ≡ front (replyTo a d) o
+  sent-out o′ e = rw (reply-is a d some) (written-out a ends.Tool d o some most room o′ e)
 
 -- A sub message written there
-module _ (trep k : ℕ) (d o : List ℕ) (such : pieceNumber (length d) k ≡ 0) (room : 260 ≤ length o) where
+module _ (a : Addresses) (trep k : ℕ) (d o : List ℕ) (such : pieceNumber (length d) k ≡ 0) (room : 260 ≤ length o) where
   sub-fits : subNumber trep k d (length o) ≡ 0
   unfolding subNumber
   sub-fits =
@@ -52,33 +52,33 @@ module _ (trep k : ℕ) (d o : List ℕ) (such : pieceNumber (length d) k ≡ 0)
   sub-some : 0 < length (subField trep k d)
   sub-some = omega (arith, field-some trep k d)
 
-  sub-length : (w : Written) → w ≡ subResult trep k d (length o) → w .len ≡ length (replyTo lab (subField trep k d))
+  sub-length : (w : Written) → w ≡ subResult trep k d (length o) → w .len ≡ length (replyTo a (subField trep k d))
   unfolding subResult
-  sub-length w e = rw (e, sub-fits, reply-is lab (subField trep k d) sub-some) (sym (length-frame lab ends.Tool (subField trep k d)))
+  sub-length w e = rw (e, sub-fits, reply-is a (subField trep k d) sub-some) (sym (length-frame a ends.Tool (subField trep k d)))
 
-  sub-out : (o′ : List ℕ) → o′ ≡ subOut lab trep k d o → o′ ≡ front (replyTo lab (subField trep k d)) o
+  sub-out : (o′ : List ℕ) → o′ ≡ subOut a trep k d o → o′ ≡ front (replyTo a (subField trep k d)) o
   unfolding subOut subFrame
-  sub-out o′ e = rw (e, sub-fits, reply-is lab (subField trep k d) sub-some)
+  sub-out o′ e = rw (e, sub-fits, reply-is a (subField trep k d) sub-some)
 
 -- the same with the data d taken from the answer that lies in the store
-module _ (trep k : ℕ) (place : Place) (s answer d o : List ℕ) (part : answer ≡ partAt (place .start) (place .len) s)
+module _ (a : Addresses) (trep k : ℕ) (place : Place) (s answer d o : List ℕ) (part : answer ≡ partAt (place .start) (place .len) s)
     (behind : d ≡ carriedBy Whole answer) (such : pieceNumber (length (dataIn s place)) k ≡ 0) (room : 260 ≤ length o) where
   is-data : d ≡ dataIn s place
   unfolding carriedBy
   is-data = behind ∙ ap (drop 2) part
 
-  pub answer-length : (w : Written) → w ≡ subResult trep k d (length o) → w .len ≡ length (replyTo lab (subField trep k (dataIn s place)))
-  answer-length w e = sub-length trep k _ o such room w (rw is-data at e)
+  pub answer-length : (w : Written) → w ≡ subResult trep k d (length o) → w .len ≡ length (replyTo a (subField trep k (dataIn s place)))
+  answer-length w e = sub-length a trep k _ o such room w (rw is-data at e)
 
-  pub answer-out : (o′ : List ℕ) → o′ ≡ subOut lab trep k d o → o′ ≡ front (replyTo lab (subField trep k (dataIn s place))) o
-  answer-out o′ e = sub-out trep k _ o such room o′ (rw is-data at e)
+  pub answer-out : (o′ : List ℕ) → o′ ≡ subOut a trep k d o → o′ ≡ front (replyTo a (subField trep k (dataIn s place))) o
+  answer-out o′ e = sub-out a trep k _ o such room o′ (rw is-data at e)
 
 -- The reply to a reaction x, which is y
-module _ (s : List ℕ) (x y : Reaction) (is : x ≡ y) where
-  pub reply-length : (n : ℕ) → n ≡ length (replyTo lab (replyData s y)) → n ≡ length (replyTo lab (replyData s x))
+module _ (a : Addresses) (s : List ℕ) (x y : Reaction) (is : x ≡ y) where
+  pub reply-length : (n : ℕ) → n ≡ length (replyTo a (replyData s y)) → n ≡ length (replyTo a (replyData s x))
   reply-length n q = rw is q
 
-  pub reply-out : (o o′ : List ℕ) → o′ ≡ front (replyTo lab (replyData s y)) o → o′ ≡ front (replyTo lab (replyData s x)) o
+  pub reply-out : (o o′ : List ℕ) → o′ ≡ front (replyTo a (replyData s y)) o → o′ ≡ front (replyTo a (replyData s x)) o
   reply-out o o′ q = rw is q
 
 pub piece-there : (s : List ℕ) (x : Reaction) (name : AnswerName) (k : SubMessage) (place : Place) → x ≡ AnswerSent name k place → pieceSent s x ≡ 0

@@ -5,12 +5,13 @@ use mathlib.Core.List.{List, [], _∷_}
 use lib.ListN.{length, drop}
 use lib.Dec.{leb}
 use Rattle.octets.specs.Order.{unless, orElse}
-use Rattle.octets.specs.Numbers.{done, bufferShort, outOfTurn, changedBy}
+use Rattle.octets.specs.Numbers.{done, formatOrAddress, bufferShort, outOfTurn, changedBy}
 use Rattle.octets.specs.Buffer.{partAt, front}
 use Rattle.octets.specs.declared.Place.{Place}
 use Rattle.frame.specs.declared.Addresses.{Addresses}
 use Rattle.frame.specs.declared.End.the-variants as ends
 use Rattle.frame.specs.Frame.{frameMost, frameOf, isStart, judged, dataOf}
+use Rattle.frame.specs.Given.{different}
 use Rattle.frame.specs.Messages.{startReply, sessionReply, rateReply, uploadReply, exitReply, stopReply}
 use Rattle.split.specs.Split.{subField}
 use Rattle.store.specs.Layout.{narrow}
@@ -100,3 +101,12 @@ unitResult a store outLen u b =
 
 unfoldable pub unitOut : Addresses → List ℕ → UnitState → List ℕ → List ℕ → List ℕ
 unitOut a store u b out = front (unitReply a store (length out) u b) out
+
+-- the call with both addresses as given: "two equal ones are 2 .., before any other check" (document 02, Req 05)
+unfoldable pub unitResultGiven : Addresses → List ℕ → ℕ → UnitState → List ℕ → UnitReply
+unitResultGiven a store outLen u b =
+    unless (different a) (record { number = formatOrAddress; state = u; len = 0 })
+    (unitResult a store outLen u b)
+
+unfoldable pub unitOutGiven : Addresses → List ℕ → UnitState → List ℕ → List ℕ → List ℕ
+unitOutGiven a store u b out = unless (different a) out (unitOut a store u b out)

@@ -1,6 +1,7 @@
 // Days (document 02, Req 03): seconds at the ends of days, and the examples of its reading.
 use crate::print;
 use catalog::AnswerName;
+use frame::LAB;
 use progress::Request;
 use services::Phase;
 use services::UnitState;
@@ -79,7 +80,7 @@ fn in_phase(phase: Phase) -> UnitState {
 // The reply, all its bytes where they are few, and the state that the host keeps.
 fn asked(what: &[u8], store: &[u8], phase: Phase) {
     let mut reply = [0u8; 260];
-    let heard = unit::call::step(in_phase(phase), store, &REQUEST, &mut reply);
+    let heard = unit::call::step(LAB, in_phase(phase), store, &REQUEST, &mut reply);
     let state = heard.state;
     print::number(what, heard.len);
     print::text(b" bytes");
@@ -95,7 +96,13 @@ fn begun() {
         trep: 0x02,
         day: 86401,
     };
-    let step = tool::call::begin(progress::state::fresh(), Request::Transfer, name, &mut out);
+    let step = tool::call::begin(
+        LAB,
+        progress::state::fresh(),
+        Request::Transfer,
+        name,
+        &mut out,
+    );
     let state = step.state;
     print::text(b"tool begins by 86401:");
     print::bytes(octets::buffer::part(&out, crate::front(step.len)));

@@ -1,6 +1,7 @@
 // The lengths of W7 to W10 and of the longest answer: sub messages written, read and joined again.
 use crate::print;
 use frame::End;
+use frame::LAB;
 use split::SubMessage;
 
 const LENGTHS: [usize; 6] = [252, 253, 501, 502, 59998, 59999];
@@ -8,8 +9,9 @@ const LENGTHS: [usize; 6] = [252, 253, 501, 502, 59998, 59999];
 // Sub message k of `data`, as the tool reads it, put behind the bytes that `room` holds; how many it holds then.
 fn step(data: &[u8], k: u16, room: &mut [u8], held: usize) -> usize {
     let mut out = [0u8; 260];
-    let written = split::write::write_sub_message(data, 0x31, SubMessage(k), &mut out);
-    let field = frame::check::data_of(
+    let written = split::call::write_sub_message(LAB, data, 0x31, SubMessage(k), &mut out);
+    let field = frame::call::data_of(
+        LAB,
         octets::buffer::part(&out, crate::front(written.len)),
         End::Tool,
     );

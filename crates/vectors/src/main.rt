@@ -1,5 +1,6 @@
-// Runs the frames of source document 003's table, the lengths of document 01's trade cases and the days of document 02,
-// one line for each.
+// Runs the frames of source document 003's table, the lengths of document 01's trade cases, and the days and the
+// addresses of document 02, one line for each.
+mod addresses;
 mod days;
 mod lengths;
 mod print;
@@ -22,4 +23,5 @@ fn main() {
     table::negative_responses();
     lengths::lengths();
     days::days();
+    addresses::addresses();
 }

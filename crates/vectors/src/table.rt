@@ -1,6 +1,7 @@
 // The frames of the table in section 2.2.2 of source document 003.
 use crate::print;
 use frame::End;
+use frame::LAB;
 use octets::Place;
 use octets::Written;
 ghost use Prim.Native.Nat.{_≤_, _<_};
@@ -64,20 +65,20 @@ fn judged(name: &[u8], frame: &[u8], end: End, other: End) {
     print::bytes(frame);
     print::number(
         b": at its end ",
-        octets::byte::usize_of(frame::check::check(frame, end)),
+        octets::byte::usize_of(frame::call::check(LAB, frame, end)),
     );
     print::number(
         b", at the other end ",
-        octets::byte::usize_of(frame::check::check(frame, other)),
+        octets::byte::usize_of(frame::call::check(LAB, frame, other)),
     );
 }
 
 // Writes a frame anew from its data; the start of communication has a form of its own.
 fn anew(frame: &[u8], end: End, out: &mut [u8]) -> Written {
     if frame.len() == 5 {
-        return frame::messages::write_start(out);
+        return frame::write::write_start(LAB, out);
     }
-    frame::write::write(frame::check::data_of(frame, end), end, out)
+    frame::call::write(LAB, frame::call::data_of(LAB, frame, end), end, out)
 }
 
 // A frame that the table gives whole: judged, and written anew.
@@ -92,11 +93,11 @@ fn whole(name: &[u8], bytes: &[u8], end: End, other: End) {
 // A frame of which the table leaves bytes open: written from its data, judged, and its data read back.
 fn of_data(name: &[u8], data: &[u8], end: End, other: End) {
     let mut out = [0u8; 260];
-    let written = frame::write::write(data, end, &mut out);
+    let written = frame::call::write(LAB, data, end, &mut out);
     let bytes = octets::buffer::part(&out, crate::front(written.len));
     judged(name, bytes, end, other);
     print::text(b", data read back");
-    print::same(frame::check::data_of(bytes, end), data);
+    print::same(frame::call::data_of(LAB, bytes, end), data);
 }
 
 // Where the bytes lie whose length stands at `at`.

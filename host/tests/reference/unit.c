@@ -1,4 +1,4 @@
-/* Document 01, The unit; document 02, Req 03. */
+/* Document 01, The unit; document 02, Req 03 and Req 05. */
 #include "reference.h"
 #include "tables.h"
 
@@ -57,23 +57,24 @@ static bool possible(const unit *u, const uint8_t *store)
     return a.number == 0 && a.len - 2 > 252 && u->last >= 1 && u->last <= frames_of(a.len);
 }
 
-static size_t say(const uint8_t *data, size_t len, uint8_t *reply)
+static size_t say(const uint8_t *data, size_t len, ref_output reply)
 {
-    return ref_frame_write(data, len, true, reply, 260).len;
+    return ref_frame_write_at(reply.unit, reply.tool, data, len, true, reply.bytes, 260).len;
 }
 
-static size_t refuse(uint8_t sid, uint8_t code, uint8_t *reply)
+static size_t refuse(uint8_t sid, uint8_t code, ref_output reply)
 {
     uint8_t d[3] = {0x7F, sid, code};
     return say(d, 3, reply);
 }
 
-static size_t send_part(const uint8_t *store, tacho_part a, uint32_t k, uint8_t *reply)
+static size_t send_part(const uint8_t *store, tacho_part a, uint32_t k, ref_output reply)
 {
-    return ref_sub_message(store + a.start + 2, a.len - 2, store[a.start + 1], (uint16_t)k, reply, 260).len;
+    const uint8_t *answer = store + a.start;
+    return ref_sub_message_at(reply.unit, reply.tool, answer + 2, a.len - 2, answer[1], (uint16_t)k, reply.bytes, 260).len;
 }
 
-static size_t on_rate(unit *u, const uint8_t *d, size_t n, uint8_t pending, uint8_t *reply)
+static size_t on_rate(unit *u, const uint8_t *d, size_t n, uint8_t pending, ref_output reply)
 {
     if (n < 3) return refuse(0x87, 0x13, reply);
     if (d[1] == 1) {
@@ -91,7 +92,7 @@ static size_t on_rate(unit *u, const uint8_t *d, size_t n, uint8_t pending, uint
     return 0;
 }
 
-static size_t on_transfer(unit *u, const uint8_t *store, const uint8_t *d, size_t n, uint8_t *reply)
+static size_t on_transfer(unit *u, const uint8_t *store, const uint8_t *d, size_t n, ref_output reply)
 {
     if (n < 2) return refuse(0x36, 0x13, reply);
     if (!ref_known(u->kind, d[1])) return refuse(0x36, 0x12, reply);
@@ -109,7 +110,7 @@ static size_t on_transfer(unit *u, const uint8_t *store, const uint8_t *d, size_
     return send_part(store, a, 1, reply);
 }
 
-static size_t on_acknowledge(unit *u, const uint8_t *store, const uint8_t *d, size_t n, uint8_t *reply)
+static size_t on_acknowledge(unit *u, const uint8_t *store, const uint8_t *d, size_t n, ref_output reply)
 {
     if (n != 4) return refuse(0x83, 0x13, reply);
     if (d[1] != 0x76) return refuse(0x83, 0x31, reply);
@@ -127,7 +128,7 @@ static size_t on_acknowledge(unit *u, const uint8_t *store, const uint8_t *d, si
     return 0;
 }
 
-static size_t hear(unit *u, const uint8_t *store, const uint8_t *d, size_t n, uint8_t *reply)
+static size_t hear(unit *u, const uint8_t *store, const uint8_t *d, size_t n, ref_output reply)
 {
     static const uint8_t upload[10] = {0x35, 0, 0, 0, 0, 0, 0xFF, 0xFF, 0xFF, 0xFF};
     uint8_t pending = u->pending;
@@ -162,27 +163,35 @@ static size_t hear(unit *u, const uint8_t *store, const uint8_t *d, size_t n, ui
     }
 }
 
-tacho_written ref_unit_step(uint8_t *state, size_t state_len, const uint8_t *store, size_t store_len, const uint8_t *frame,
-                            size_t frame_len, uint8_t *reply, size_t reply_len)
+tacho_written ref_unit_step_at(uint8_t unit_address, uint8_t tool_address, uint8_t *state, size_t state_len, const uint8_t *store,
+                               size_t store_len, const uint8_t *frame, size_t frame_len, uint8_t *reply, size_t reply_len)
 {
     unit u;
+    ref_output out = {unit_address, tool_address, reply};
+    if (unit_address == tool_address) return (tacho_written){2, 0};
     uint8_t number = ref_store_check(store, store_len);
     if (number) return (tacho_written){number, 0};
     if (!unpack(state, state_len, &u) || !possible(&u, store)) return (tacho_written){11, 0};
     if (reply_len < 260) return (tacho_written){4, 0};
-    tacho_part d = ref_frame_data(frame, frame_len, false);
+    tacho_part d = ref_frame_data_at(unit_address, tool_address, frame, frame_len, false);
     if (d.number) return (tacho_written){d.number, 0};
     size_t len = 0;
     if (frame[0] == 0x81) {
         u.phase = TACHO_PHASE_STARTED;
         u.rate = 1;
         u.pending = 0;
-        len = say((const uint8_t[]){0xC1, 0xEA, 0x8F}, 3, reply);
+        len = say((const uint8_t[]){0xC1, 0xEA, 0x8F}, 3, out);
     } else if (u.phase != TACHO_PHASE_CLOSED) {
-        len = hear(&u, store, frame + d.start, d.len, reply);
+        len = hear(&u, store, frame + d.start, d.len, out);
     }
     pack(&u, state);
     return (tacho_written){0, len};
+}
+
+tacho_written ref_unit_step(uint8_t *state, size_t state_len, const uint8_t *store, size_t store_len, const uint8_t *frame,
+                            size_t frame_len, uint8_t *reply, size_t reply_len)
+{
+    return ref_unit_step_at(REF_UNIT_ADDRESS, REF_TOOL_ADDRESS, state, state_len, store, store_len, frame, frame_len, reply, reply_len);
 }
 
 REF_READER(ref_unit_kind, unit, kind)

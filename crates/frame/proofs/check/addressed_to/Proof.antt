@@ -10,13 +10,13 @@ unfolding addressed
 addressed-to-spec =
     tie.close
     (tie.spec
-    (λ c. search needs)
     (λ c κs. search needs)
-    (λ c. search (picks, eq-given, ne-given) depth 9)
-    (λ c. search needs)
     (λ c κs. search needs)
-    (λ c. search (picks, eq-given, ne-given) depth 9)
+    (λ c. search needs)
     (λ c. search needs)
     (λ c. search (picks, eq-given, ne-given) depth 9)
+    (λ c. search (picks, eq-given, ne-given) depth 9)
+    (λ c. search needs)
+    (λ c. search (picks, eq-given) depth 9)
     (λ c κs. search needs)
-    (λ c. search (picks, eq-given, ne-given) depth 9))
+    (λ c. search (picks, eq-given) depth 9))

@@ -1,4 +1,4 @@
--- The start frame, silence, or the data.
+-- The start by its first byte, silence, or the data.
 use Rattle.unit.proofs.CallLaws.{reaction-start, reaction-ignored, reaction-data}
 use borrow.Author.Needs.{needs}
 use Rattle.unit.proofs.call.on_good.Statement.{statement}
@@ -10,7 +10,6 @@ pub on-good-spec : {M : Type 1} → statement M
 on-good-spec =
     tie.close
     (tie.spec
-    (λ c. search all)
     (λ c κs. search all)
     (λ c. search all)
     (λ c κs. search all)

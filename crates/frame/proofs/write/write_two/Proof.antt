@@ -4,14 +4,14 @@ use Rattle.octets.proofs.CallLaws.{written-is}
 use Rattle.frame.specs.Frame.{writeResult, writeOut}
 use Rattle.frame.proofs.WriteLaws.{number-empty, number-long, number-short, number-good, kept-empty, kept-long, kept-short, length-good, framed}
 use borrow.Author.Needs.{needs}
-use Rattle.frame.proofs.write.write_frame.Statement.{statement}
-use Rattle.frame.proofs.write.write_frame.Tie as tie
+use Rattle.frame.proofs.write.write_two.Statement.{statement}
+use Rattle.frame.proofs.write.write_two.Tie as tie
 
 ruleset all = (needs, written-is, number-empty, number-long, number-short, number-good, kept-empty, kept-long, kept-short, length-good, framed)
 
-pub write-frame-spec : {M : Type 1} → statement M
+pub write-two-spec : {M : Type 1} → statement M
 unfolding writeResult writeOut
-write-frame-spec =
+write-two-spec =
     tie.close
     (tie.spec
     (λ c. search all)

@@ -1,13 +1,13 @@
 -- The call on the state that the bytes are.
 use Rattle.host.proofs.CallLaws.{step-state, step-handed, step-kept, step-reply}
 use borrow.Author.Needs.{needs}
-use Rattle.host.proofs.unit_calls.tacho_unit_step.Statement.{statement}
-use Rattle.host.proofs.unit_calls.tacho_unit_step.Tie as tie
+use Rattle.host.proofs.unit_calls.tacho_unit_step_at.Statement.{statement}
+use Rattle.host.proofs.unit_calls.tacho_unit_step_at.Tie as tie
 
 ruleset all = (needs, step-state, step-handed, step-kept, step-reply)
 
-pub tacho-unit-step-spec : {M : Type 1} → statement M
-tacho-unit-step-spec =
+pub tacho-unit-step-at-spec : {M : Type 1} → statement M
+tacho-unit-step-at-spec =
     tie.close
     (tie.spec
     (λ c κs. search all)
