@@ -52,7 +52,7 @@ enum {
     TACHO_STORE_TWICE = 17       /* the same TREP and day twice */
 };
 
-/* The lab's addresses of the two ends: those of every call without _at. */
+/* The lab's addresses of the two ends: those of the calls on frames that are given none. */
 enum { TACHO_UNIT_ADDRESS = 0xEE, TACHO_TOOL_ADDRESS = 0xF0 };
 
 /* Kinds of unit. */
