@@ -2,15 +2,16 @@
 use Prim.Native.Nat.{ℕ}
 use mathlib.Core.Bool.{Bool, true, false}
 use mathlib.Core.List.{List}
-use mathlib.Core.Path.{_≡_, ap, _∙_}
+use mathlib.Core.Path.{_≡_}
 use lib.Dec.{eqb}
 use lib.ListN.{length, getD}
 use borrow.Author.Tests.{eq-eqb, ne-eqb}
-use Rattle.octets.specs.Buffer.{sameBytes, partAt}
+use Rattle.octets.specs.Buffer.{sameBytes}
 use Rattle.octets.specs.declared.Place.{Place}
 use Rattle.frame.specs.declared.Addresses.{Addresses}
 use Rattle.frame.specs.declared.End.the-variants as ends
-use Rattle.frame.specs.Frame.{judged, dataPlace, dataOf}
+use Rattle.frame.specs.Frame.{dataPlace, dataOf}
+use Rattle.frame.proofs.CheckLaws.{place-number}
 use Rattle.split.specs.Join.{receivedAs}
 use Rattle.split.specs.declared.Received.{Received}
 use Rattle.progress.specs.declared.Request.{Request}
@@ -77,16 +78,8 @@ module _ (roomLen : ℕ) (t : ToolState) (d : List ℕ) where
 -- A string b that arrives: its data d lies at the place p, is x of the answer and adds n bytes
 
 module _ (a : Addresses) (roomLen : ℕ) (t : ToolState) (b d : List ℕ) (p : Place) (x : Received) (n : ℕ) (located : p ≡ dataPlace a ends.Tool b)
-    (part : d ≡ partAt (p .start) (p .len) b)
+    (data-is : d ≡ dataOf a ends.Tool b)
     (received : x ≡ receivedAs (t .name .trep) (t .expected .0) d) (adds : n ≡ length (newBytes t x d)) where
-  data-is : d ≡ dataOf a ends.Tool b
-  unfolding dataOf
-  data-is = part ∙ ap (λ (q : Place). partAt (q .start) (q .len) b) located
-
-  number-is : p .number ≡ judged a ends.Tool b
-  unfolding dataPlace
-  number-is = ap (λ (q : Place). q .number) located
-
   arrives : (m : Meaning) → m ≡ arrivalMeaning a roomLen t b
       → _≡_ {A = Arrival} (record { place = p; received = x; new = n; meaning = m }) (arrivalOf a roomLen t b)
   unfolding arrivalOf arrivalBytes
@@ -94,12 +87,12 @@ module _ (a : Addresses) (roomLen : ℕ) (t : ToolState) (b d : List ℕ) (p : P
 
   pub arrival-refused : (p .number ≡ 0 → ⊥) → _≡_ {A = Arrival} (record { place = p; received = x; new = n; meaning = FailedWait }) (arrivalOf a roomLen t b)
   unfolding arrivalMeaning
-  arrival-refused h = arrives FailedWait (rw (← number-is, ne-eqb (p .number) 0 h))
+  arrival-refused h = arrives FailedWait (rw (← place-number a ends.Tool b p located, ne-eqb (p .number) 0 h))
 
   pub arrival-good : (m : Meaning) → p .number ≡ 0 → m ≡ dataMeaning roomLen t d
       → _≡_ {A = Arrival} (record { place = p; received = x; new = n; meaning = m }) (arrivalOf a roomLen t b)
   unfolding arrivalMeaning
-  arrival-good m h e = arrives m (rw (← number-is, h, ← data-is) e)
+  arrival-good m h e = arrives m (rw (← place-number a ends.Tool b p located, h, ← data-is) e)
 
 -- what is taken, by the meaning that the code matched
 pub takes-at : (m m′ : Meaning) (r : Bool) → m ≡ m′ → r ≡ takes m′ → r ≡ takes m

@@ -1,11 +1,11 @@
 -- The new bytes of a frame, and whether they fit the room.
 use Prim.Native.Nat.{ℕ, _+_, _-_, _<_, _≤_}
-use mathlib.Core.Bool.{Bool, true, false, cond}
-use mathlib.Core.List.{List, [], _∷_, _++_}
-use mathlib.Core.Path.{_≡_, refl, sym}
+use mathlib.Core.Bool.{true, false}
+use mathlib.Core.List.{List}
+use mathlib.Core.Path.{_≡_, sym}
 use native.Mathlib.Omega.{arith}
-use lib.Dec.{eqb, leb}
-use lib.ListN.{length, take, length-append}
+use lib.Dec.{leb}
+use lib.ListN.{length, length-append}
 use borrow.Author.Tests.{le-leb, lt-leb, eq-eqb, ne-eqb, leb-true}
 use Rattle.octets.proofs.Tests.{and-left, and-right}
 use Rattle.split.specs.Join.{carriedBy}
@@ -25,20 +25,9 @@ module _ (t : ToolState) where
   unfolding header
   header-none n = rw (ne-eqb (t .expected .0) 1 n)
 
-  header-taken : take (length (header t)) (0x76 ∷ t .name .trep ∷ []) ≡ header t
-  unfolding header
-  header-taken = go (eqb (t .expected .0) 1)
-    where
-      go : (b : Bool) → take (length (cond b (0x76 ∷ t .name .trep ∷ []) [])) (0x76 ∷ t .name .trep ∷ []) ≡ cond b (0x76 ∷ t .name .trep ∷ []) []
-      go true = refl
-      go false = refl
-
   module _ (x : Received) (d p : List ℕ) (n : ℕ) (is : n ≡ length (header t)) (e : p ≡ carriedBy x d) where
     pub new-length : n + length p ≡ length (newBytes t x d)
     new-length = rw (is, e) (sym (length-append (header t) (carriedBy x d)))
-
-    pub new-bytes : take n (0x76 ∷ t .name .trep ∷ []) ++ p ≡ newBytes t x d
-    new-bytes = rw (is, e, header-taken)
 
 -- Whether they fit
 

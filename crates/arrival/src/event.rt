@@ -107,7 +107,9 @@ pub fn arrival_of(addresses: Addresses, state: ToolState, frame: &[u8], room_len
 {
     let expected = state.expected;
     let place = frame::check::locate(addresses, frame, End::Tool);
-    let data = octets::buffer::part(frame, place);
+    let start = place.start;
+    let end = start + place.len;
+    let data = &frame[start..end];
     let received = split::join::receive(data, state.name.trep, expected);
     let new = crate::room::new_length(state, received, data);
     if place.number != 0 {

@@ -84,10 +84,13 @@ unfoldable pub startRight : End → List ℕ → Bool
 startRight ends.Unit s = eqb (getD s 3 0) 0x81
 startRight ends.Tool s = false
 
+-- the general form carries any SID at either end
+abbrev pub formRight : End → List ℕ → Bool
+formRight end s = cond (isStart s) (startRight end s) true
+
 -- "addresses not tool to unit (at the unit) or unit to tool (at the tool), or .. (2)"
 unfoldable pub addressed : Addresses → End → List ℕ → Bool
-addressed a end s =
-    eqb (getD s 1 0) (target a end) && (eqb (getD s 2 0) (source a end) && cond (isStart s) (startRight end s) true)
+addressed a end s = eqb (getD s 1 0) (target a end) && (eqb (getD s 2 0) (source a end) && formRight end s)
 
 -- "wrong CS (3)"
 unfoldable pub checksumRight : List ℕ → Bool

@@ -11,8 +11,9 @@ use octets::wire::START_COMMUNICATION;
 ghost use mathlib.Core.Path.{_≡_};
 ghost use Prim.Native.Nat.{_≤_};
 ghost use lib.ListN.{length};
-ghost use Rattle.frame.specs.Frame.{target, source, knownFormat, countRight, addressed, startRight};
-ghost use Rattle.frame.specs.Frame.{checksumRight, judged, dataPlace};
+ghost use Rattle.octets.specs.Numbers.{placeBy};
+ghost use Rattle.frame.specs.Frame.{target, source, knownFormat, countRight, startRight, formRight, addressed};
+ghost use Rattle.frame.specs.Frame.{checksumRight, judged, dataStart, dataLength, dataPlace};
 
 // The address that a frame arriving at `end` goes to.
 pub(crate) fn target_of(addresses: Addresses, end: End) -> u8
@@ -64,6 +65,18 @@ fn start_right(frame: &[u8], end: End) -> bool
     }
 }
 
+// The form without LEN is right for the start alone, at the unit; the general form always is.
+fn form_right(frame: &[u8], end: End) -> bool
+    requires { ⌜ 5 ≤ length (now frame) ⌝ }
+    ensures { λ r. ⌜ r ≡ formRight «end» (now (frame .entry)) ⌝ }
+{
+    if frame[0] != WITHOUT_LEN {
+        return true;
+    }
+    start_right(frame, end)
+}
+
+// The form comes first: the count has just asked for it, so that the compiler joins the two tests.
 fn addressed_to(addresses: Addresses, frame: &[u8], end: End) -> bool
     requires { ⌜ 5 ≤ length (now frame) ⌝ }
     ensures { λ r. ⌜ r ≡ addressed addresses «end» (now (frame .entry)) ⌝ }
@@ -72,16 +85,13 @@ fn addressed_to(addresses: Addresses, frame: &[u8], end: End) -> bool
     let source = source_of(addresses, end);
     let to = frame[1];
     let from = frame[2];
+    if !form_right(frame, end) {
+        return false;
+    }
     if to != target {
         return false; // it goes elsewhere
     }
-    if from != source {
-        return false; // it comes from elsewhere
-    }
-    if frame[0] != WITHOUT_LEN {
-        return true;
-    }
-    start_right(frame, end)
+    from == source
 }
 
 fn checksum_right(frame: &[u8]) -> bool
@@ -114,15 +124,12 @@ pub(crate) fn judge(addresses: Addresses, frame: &[u8], end: End) -> u8
     0
 }
 
-// Where the data of a frame lies: behind the header, or the SID of the five-byte start.
-pub fn locate(addresses: Addresses, frame: &[u8], end: End) -> Place
-    ensures { λ r. ⌜ r ≡ dataPlace addresses «end» (now (frame .entry)) ⌝ }
+// Where the data of a good frame lies: behind the header, or the SID of the five-byte start.
+fn place_in(frame: &[u8]) -> Place
+    requires { ⌜ 5 ≤ length (now frame) ⌝ }
+    ensures { λ r. ⌜ r ≡ placeBy 0 (dataStart (now (frame .entry))) (dataLength (now (frame .entry))) ⌝ }
 {
-    let number = judge(addresses, frame, end);
-    if number != 0 {
-        return octets::refused_place(number);
-    }
-    if octets::byte::byte_at(frame, 0) == WITHOUT_LEN {
+    if frame[0] == WITHOUT_LEN {
         return Place {
             number: 0,
             start: 3,
@@ -132,6 +139,17 @@ pub fn locate(addresses: Addresses, frame: &[u8], end: End) -> Place
     Place {
         number: 0,
         start: 4,
-        len: octets::byte::usize_of(octets::byte::byte_at(frame, 3)),
+        len: octets::byte::usize_of(frame[3]),
     }
+}
+
+// Where the data of a frame lies, or its number.
+pub fn locate(addresses: Addresses, frame: &[u8], end: End) -> Place
+    ensures { λ r. ⌜ r ≡ dataPlace addresses «end» (now (frame .entry)) ⌝ }
+{
+    let number = judge(addresses, frame, end);
+    if number != 0 {
+        return octets::refused_place(number);
+    }
+    place_in(frame)
 }

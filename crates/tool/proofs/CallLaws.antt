@@ -8,12 +8,13 @@ use lib.Dec.{leb}
 use lib.ListN.{length}
 use borrow.Author.Tests.{le-leb, lt-leb, eq-eqb, ne-eqb, leb-true}
 use Rattle.octets.specs.Numbers.{changedBy}
-use Rattle.octets.specs.Buffer.{front, partAt}
+use Rattle.octets.specs.Buffer.{front}
 use Rattle.octets.proofs.OrderLaws.{unless-is, or-zero}
 use Rattle.octets.proofs.CallLaws.{kept-by, changed-by}
 use Rattle.octets.proofs.Tests.{and-left, and-right}
 use Rattle.frame.specs.declared.Addresses.{Addresses}
-use Rattle.frame.specs.Frame.{dataOf}
+use Rattle.frame.specs.declared.End.the-variants as ends
+use Rattle.frame.specs.Frame.{dataPlace, dataOf}
 use Rattle.frame.specs.Given.{different}
 use Rattle.catalog.specs.Name.{nameNumber}
 use Rattle.catalog.specs.declared.AnswerName.{AnswerName}
@@ -147,11 +148,15 @@ module _ (a : Addresses) (t : ToolState) (b : List ℕ) (roomLen : ℕ) (x : Arr
   unfolding arrivalOf
   arrival-out o o′ e = e ∙ ap (λ (y : Arrival). eventOutGiven a t (y .meaning) roomLen o) is
 
+  pub arrival-place : x .place ≡ dataPlace a ends.Tool b
+  unfolding arrivalOf
+  arrival-place = ap (λ (y : Arrival). y .place) is
+
   -- d is its data
-  module _ (d : List ℕ) (part : d ≡ partAt (x .place .start) (x .place .len) b) where
+  module _ (d : List ℕ) (data-is : d ≡ dataOf a ends.Tool b) where
     bytes-are : newBytes t (x .received) d ≡ arrivalBytes a t b
-    unfolding arrivalOf arrivalBytes dataOf
-    bytes-are = rw (part, is)
+    unfolding arrivalOf arrivalBytes
+    bytes-are = rw (data-is, is)
 
     pub arrival-room : takes (x .meaning) ≡ true → t .held + length (newBytes t (x .received) d) ≤ roomLen
     arrival-room k = rw bytes-are (fits-in-room roomLen t _ (taken-by k .fit))
@@ -175,16 +180,16 @@ module _ (a : Addresses) (t : ToolState) (b o : List ℕ) (outLen : ℕ) (x : Ar
       go true q = rw q (kept-by (s .number) _ _ o (step-number q) h)
       go false q = rw q
 
-  pub arrived-taken : (d o′ : List ℕ) → s .number ≡ 0 → d ≡ partAt (x .place .start) (x .place .len) b
+  pub arrived-taken : (d o′ : List ℕ) → s .number ≡ 0 → d ≡ dataOf a ends.Tool b
       → o′ ≡ roomAfter t (x .meaning) (newBytes t (x .received) d) o → o′ ≡ arrivalRoomGiven a t b outLen o
   unfolding eventRoomGiven eventRoom arrivalOf
-  arrived-taken d o′ z part q = go (different a) refl
+  arrived-taken d o′ z data-is q = go (different a) refl
     where
       go : (y : Bool) → different a ≡ y → o′ ≡ arrivalRoomGiven a t b outLen o
       go true p =
           rw p
           (changed-by (s .number) _ o′ _ o (step-number p) z
-          (q ∙ ap (λ (v : List ℕ). roomAfter t (x .meaning) v o) (bytes-are a t b (length o) x is d part)
+          (q ∙ ap (λ (v : List ℕ). roomAfter t (x .meaning) v o) (bytes-are a t b (length o) x is d data-is)
           ∙ ap (λ (y : Arrival). roomAfter t (y .meaning) (arrivalBytes a t b) o) is))
       go false p = absurd (omega (arith, equal-number p))
 

@@ -200,17 +200,14 @@ pub fn arrived(
     let meaning = arrival.meaning;
     let received = arrival.received;
     let place = arrival.place;
+    let start = place.start;
+    let end = start + place.len;
+    let data = &frame[start..end];
     let step = event_step(addresses, state, meaning, arrival.new, room.len(), out);
     if step.number != 0 {
         return step;
     }
-    crate::room::take_in(
-        state,
-        meaning,
-        received,
-        octets::buffer::part(frame, place),
-        room,
-    );
+    crate::room::take_in(state, meaning, received, data, room);
     step
 }
 

@@ -5,24 +5,27 @@ use progress::ToolState;
 use split::Received;
 ghost use mathlib.Core.Path.{_≡_};
 ghost use mathlib.Core.Bool.{true};
-ghost use mathlib.Core.List.{_++_};
 ghost use Prim.Native.Nat.{_+_, _≤_};
 ghost use lib.ListN.{length};
 ghost use Rattle.octets.specs.Buffer.{put};
-ghost use Rattle.arrival.specs.Meaning.{newBytes, takes};
+ghost use Rattle.arrival.specs.Meaning.{header, newBytes, takes};
 ghost use Rattle.tool.specs.After.{roomAfter};
 
-// Puts header and data right behind the held bytes: the tail is lent on to the copy, which knows only that part.
-fn keep(room: &mut [u8], held: usize, header: &[u8], carried: &[u8])
-    requires { ⌜ held + length (now header) + length (now carried) ≤ length (now room) ⌝ }
-    ensures { λ _. ⌜ now (room .exit) ≡ put held (now (header .entry) ++ now (carried .entry)) (now (room .entry)) ⌝ }
+// 76 and TREP right behind the held bytes, where sub message 1 is expected: they stand before its data alone.
+fn keep_header(state: ToolState, room: &mut [u8])
+    requires { ⌜ (state .expected .0 ≡ 1 → state .held + 2 ≤ length (now room)) ⌝ }
+    ensures { λ _. ⌜ now (room .exit) ≡ put (state .held) (header state) (now (room .entry)) ⌝ }
 {
-    octets::buffer::copy_in(&mut room[held..], header);
-    let behind = held + header.len();
-    octets::buffer::copy_in(&mut room[behind..], carried);
+    let held = state.held as usize;
+    if state.expected.0 != 1 {
+        return;
+    }
+    room[held] = ANSWER;
+    room[held + 1] = state.name.trep;
 }
 
-// Takes the new bytes of a frame's data into the room where its meaning says so.
+// Takes the new bytes of a frame's data into the room where its meaning says so, right behind the held ones. The tail
+// behind the header is lent on to the copy, which knows only that part.
 pub(crate) fn take_in(
     state: ToolState,
     meaning: Meaning,
@@ -36,15 +39,11 @@ pub(crate) fn take_in(
         roomAfter state meaning (newBytes state received (now («data» .entry))) (now (room .entry)) ⌝ }
 {
     let held = state.held as usize;
-    let header = [ANSWER, state.name.trep];
-    let n = arrival::room::header_length(state);
     if !arrival::event::takes(meaning) {
         return;
     }
-    keep(
-        room,
-        held,
-        &header[..n],
-        split::join::carried(data, received),
-    );
+    keep_header(state, room);
+    let behind = held + arrival::room::header_length(state);
+    let carried = split::join::carried(data, received);
+    octets::buffer::copy_in(&mut room[behind..], carried);
 }

@@ -8,12 +8,12 @@ use lib.ListN.{length, getD}
 use borrow.Author.Tests.{eq-eqb, ne-eqb, leb-true}
 use Rattle.octets.specs.Order.{unless, orElse}
 use Rattle.octets.specs.Numbers.{changedBy}
-use Rattle.octets.specs.Buffer.{partAt, front}
+use Rattle.octets.specs.Buffer.{front}
 use Rattle.octets.specs.declared.Place.{Place}
 use Rattle.octets.proofs.OrderLaws.{Both, unless-is, or-zero}
 use Rattle.frame.specs.declared.Addresses.{Addresses}
 use Rattle.frame.specs.declared.End.the-variants as ends
-use Rattle.frame.specs.Frame.{isStart, judged, dataPlace, dataOf}
+use Rattle.frame.specs.Frame.{isStart, judged, dataOf}
 use Rattle.catalog.specs.declared.AnswerName.{AnswerName}
 use Rattle.store.specs.Layout.{narrow}
 use Rattle.store.specs.Read.{lookupPlace, lookupBoth}
@@ -37,24 +37,23 @@ pub possible-sent : (s : List ℕ) (name : AnswerName) (place : Place) (u : Unit
 unfolding possible
 possible-sent s name place u r found e q = rw (← e, ← found) q
 
--- The returns of the reaction to a good frame; r is its first byte, c whether the unit is closed
-module _ (a : Addresses) (sent asked : Place) (u : UnitState) (b : List ℕ) (r : ℕ) (first : r ≡ getD b 0 0) where
-  pub reaction-start : r ≡ 0x81 → CommunicationStarted ≡ reactionAt a sent asked u b
+-- The returns of the reaction to a good frame; c is whether the unit is closed
+module _ (a : Addresses) (sent asked : Place) (u : UnitState) (b : List ℕ) where
+  pub reaction-start : getD b 0 0 ≡ 0x81 → CommunicationStarted ≡ reactionAt a sent asked u b
   unfolding reactionAt
-  reaction-start h = rw (eq-eqb (getD b 0 0) 0x81 (sym first ∙ h))
+  reaction-start h = rw (eq-eqb (getD b 0 0) 0x81 h)
 
-  module _ (other : r ≡ 0x81 → ⊥) where
+  module _ (other : getD b 0 0 ≡ 0x81 → ⊥) (c : Bool) (closed : c ≡ isClosed (u .phase)) where
     general : isStart b ≡ false
-    general = ne-eqb (getD b 0 0) 0x81 (λ e. other (first ∙ e))
+    general = ne-eqb (getD b 0 0) 0x81 other
 
-    module _ (c : Bool) (closed : c ≡ isClosed (u .phase)) where
-      pub reaction-ignored : c ≡ true → Ignored ≡ reactionAt a sent asked u b
-      unfolding reactionAt
-      reaction-ignored h = rw (general, ← closed, h)
+    pub reaction-ignored : c ≡ true → Ignored ≡ reactionAt a sent asked u b
+    unfolding reactionAt
+    reaction-ignored h = rw (general, ← closed, h)
 
-      pub reaction-data : (d : List ℕ) (x : Reaction) → c ≡ false → d ≡ dataOf a ends.Unit b → x ≡ onData sent asked u d → x ≡ reactionAt a sent asked u b
-      unfolding reactionAt
-      reaction-data d x h e q = rw (general, ← closed, h, ← e) q
+    pub reaction-data : (d : List ℕ) (x : Reaction) → c ≡ false → d ≡ dataOf a ends.Unit b → x ≡ onData sent asked u d → x ≡ reactionAt a sent asked u b
+    unfolding reactionAt
+    reaction-data d x h e q = rw (general, ← closed, h, ← e) q
 
 -- A reaction that a number may hold back to silence: the state stays, and nothing is replied
 
@@ -73,16 +72,6 @@ module _ (a : Addresses) (s : List ℕ) (u : UnitState) (x : Reaction) where
   unfolding pieceSent
   held-piece true e = e
   held-piece false e = refl
-
--- The frame of a call: place is where its data d lies
-module _ (a : Addresses) (b : List ℕ) (place : Place) (located : place ≡ dataPlace a ends.Unit b) where
-  pub place-number : place .number ≡ judged a ends.Unit b
-  unfolding dataPlace
-  place-number = ap (λ (p : Place). p .number) located
-
-  pub place-data : (d : List ℕ) → d ≡ partAt (place .start) (place .len) b → d ≡ dataOf a ends.Unit b
-  unfolding dataOf
-  place-data d e = e ∙ ap (λ (p : Place). partAt (p .start) (p .len) b) located
 
 pub found-by : (s : List ℕ) (found : TwoPlaces) (sent asked : AnswerName) (phase : Phase) (d : List ℕ) → found ≡ lookupBoth narrow sent asked s
     → sent ≡ nameSent phase → asked ≡ nameAsked d

@@ -1,14 +1,19 @@
 -- Replies: what is written for each reaction, and that a reply has 6 to 260 bytes.
-use Prim.Native.Nat.{ℕ, _+_, _<_, _≤_}
-use mathlib.Core.Bool.{Bool, true, false, cond}
+use Prim.Native.Nat.{ℕ, _+_, _-_, _<_, _≤_}
+use mathlib.Core.Bool.{Bool, true, false, cond, _&&_}
 use mathlib.Core.List.{List, [], _∷_}
 use mathlib.Core.Path.{_≡_, refl, sym, ap, _∙_}
 use native.Mathlib.Omega.{arith}
-use lib.Dec.{eqb}
-use lib.ListN.{length, drop}
-use borrow.Author.Tests.{le-leb}
+use lib.Dec.{eqb, leb}
+use lib.ListN.{length, take, drop, length-drop}
+use lib.Seq.{take-all}
+use borrow.Author.Tests.{le-leb, leb-true}
 use Rattle.octets.specs.Buffer.{partAt, front}
 use Rattle.octets.specs.declared.Place.{Place}
+use Rattle.octets.proofs.OrderLaws.{unless-is}
+use Rattle.octets.proofs.Tests.{and-left, and-right}
+use Rattle.octets.proofs.BufferLaws.{length-part}
+use Rattle.octets.proofs.PartLaws.{part-in}
 use Rattle.octets.specs.declared.Written.{Written}
 use Rattle.frame.specs.declared.Addresses.{Addresses}
 use Rattle.frame.specs.declared.End.the-variants as ends
@@ -16,8 +21,6 @@ use Rattle.frame.specs.Frame.{frameMost, frameOf, writeResult, writeOut}
 use Rattle.frame.proofs.WriteLaws.{length-frame, written-length, written-out}
 use Rattle.catalog.specs.declared.AnswerName.{AnswerName}
 use Rattle.split.specs.Split.{pieceNumber, subField, subFrame, subNumber, subResult, subOut}
-use Rattle.split.specs.Join.{carriedBy}
-use Rattle.split.specs.declared.Received.the-variants.{Whole}
 use Rattle.split.specs.declared.SubMessage.{SubMessage}
 use Rattle.split.proofs.SplitLaws.{field-some, length-field}
 use Rattle.services.specs.declared.UnitState.{UnitState}
@@ -25,7 +28,7 @@ use Rattle.services.specs.declared.Reaction.{Reaction}
 use Rattle.services.specs.declared.Reaction.the-variants.{Ignored, CommunicationStarted, SessionOpened, RateOffered, RateChanged, UploadGranted}
 use Rattle.services.specs.declared.Reaction.the-variants.{AnswerSent, AnswerStopped, TransferExited, CommunicationStopped, Negative}
 use Rattle.unit.specs.Call.{reactionTo, dataIn, replyData, replyTo, unitNumber, unitReply}
-use Rattle.unit.specs.Piece.{pieceSent}
+use Rattle.unit.specs.Piece.{pieceAt, pieceSent}
 
 -- some data goes out as a frame
 pub reply-is : (a : Addresses) (d : List ℕ) → 0 < length d → replyTo a d ≡ frameOf a ends.Tool d
@@ -60,18 +63,47 @@ module _ (a : Addresses) (trep k : ℕ) (d o : List ℕ) (such : pieceNumber (le
   unfolding subOut subFrame
   sub-out o′ e = rw (e, sub-fits, reply-is a (subField trep k d) sub-some)
 
--- the same with the data d taken from the answer that lies in the store
-module _ (a : Addresses) (trep k : ℕ) (place : Place) (s answer d o : List ℕ) (part : answer ≡ partAt (place .start) (place .len) s)
-    (behind : d ≡ carriedBy Whole answer) (such : pieceNumber (length (dataIn s place)) k ≡ 0) (room : 260 ≤ length o) where
+-- the same with the data of the answer that lies at a place of the store, behind 76 and TREP
+pub record PieceAt (s : List ℕ) (k : ℕ) (place : Place) : Type 0 where
+  pub two : 2 ≤ place .len
+  pub inside : place .start + place .len ≤ length s
+  pub such : pieceNumber (place .len - 2) k ≡ 0
+
+pub piece-at : (s : List ℕ) (k : ℕ) (place : Place) → pieceAt s k place ≡ 0 → PieceAt s k place
+unfolding pieceAt
+piece-at s k place z =
+    let h = unless-is (leb 2 (place .len) && leb (place .start + place .len) (length s)) 6 _ 0 refl z in
+    record {
+      two = leb-true _ _ (and-left (leb 2 (place .len)) _ (h .first));
+      inside = leb-true _ _ (and-right (leb 2 (place .len)) _ (h .first));
+      such = h .rest;
+    }
+
+module _ (a : Addresses) (trep k : ℕ) (place : Place) (s d o : List ℕ)
+    (part : d ≡ take (place .start + place .len - (place .start + 2)) (drop (place .start + 2) s)) (at : pieceAt s k place ≡ 0) (room : 260 ≤ length o) where
+  there : PieceAt s k place
+  there = piece-at s k place at
+
+  answer-size : length (partAt (place .start) (place .len) s) ≡ place .len
+  answer-size = length-part s (place .start) (place .len) (there .inside)
+
+  data-size : length (dataIn s place) ≡ place .len - 2
+  data-size = length-drop 2 (partAt (place .start) (place .len) s) ∙ ap (λ (n : ℕ). n - 2) answer-size
+
   is-data : d ≡ dataIn s place
-  unfolding carriedBy
-  is-data = behind ∙ ap (drop 2) part
+  is-data =
+      let n : place .start + place .len - (place .start + 2) ≡ place .len - 2 = omega arith in
+      part ∙ rw n (part-in (place .start) (place .len) 2 (place .len - 2) s (omega (arith, there .two)) (there .inside))
+      ∙ take-all (place .len - 2) (dataIn s place) (omega (arith, data-size))
+
+  piece-such : pieceNumber (length (dataIn s place)) k ≡ 0
+  piece-such = rw data-size (there .such)
 
   pub answer-length : (w : Written) → w ≡ subResult trep k d (length o) → w .len ≡ length (replyTo a (subField trep k (dataIn s place)))
-  answer-length w e = sub-length a trep k _ o such room w (rw is-data at e)
+  answer-length w e = sub-length a trep k _ o piece-such room w (rw is-data at e)
 
   pub answer-out : (o′ : List ℕ) → o′ ≡ subOut a trep k d o → o′ ≡ front (replyTo a (subField trep k (dataIn s place))) o
-  answer-out o′ e = sub-out a trep k _ o such room o′ (rw is-data at e)
+  answer-out o′ e = sub-out a trep k _ o piece-such room o′ (rw is-data at e)
 
 -- The reply to a reaction x, which is y
 module _ (a : Addresses) (s : List ℕ) (x y : Reaction) (is : x ≡ y) where
@@ -82,7 +114,7 @@ module _ (a : Addresses) (s : List ℕ) (x y : Reaction) (is : x ≡ y) where
   reply-out o o′ q = rw is q
 
 pub piece-there : (s : List ℕ) (x : Reaction) (name : AnswerName) (k : SubMessage) (place : Place) → x ≡ AnswerSent name k place → pieceSent s x ≡ 0
-    → pieceNumber (length (dataIn s place)) (k .0) ≡ 0
+    → pieceAt s (k .0) place ≡ 0
 unfolding pieceSent
 piece-there s x name k place e z = rw e at z
 

@@ -2,20 +2,18 @@
 use Prim.Native.Nat.{ℕ, _+_, _-_, _≤_}
 use mathlib.Core.Bool.{Bool, true, false, cond, _&&_}
 use mathlib.Core.List.{List}
-use mathlib.Core.Path.{_≡_, refl, ap, _∙_}
+use mathlib.Core.Path.{_≡_, refl}
 use native.Mathlib.Omega.{arith}
 use lib.Dec.{eqb, ltb, leb}
-use lib.ListN.{length, drop, length-drop}
-use borrow.Author.Tests.{eqb-true}
-use Rattle.octets.specs.Buffer.{partAt}
+use lib.ListN.{length}
+use borrow.Author.Tests.{le-leb, eqb-true}
 use Rattle.octets.specs.declared.Place.{Place}
 use Rattle.octets.proofs.Tests.{and-right, never}
-use Rattle.octets.proofs.BufferLaws.{length-part}
 use Rattle.frame.specs.declared.Addresses.{Addresses}
 use Rattle.frame.specs.declared.End.the-variants as ends
 use Rattle.frame.specs.Frame.{isStart, dataOf}
 use Rattle.catalog.specs.declared.AnswerName.{AnswerName}
-use Rattle.split.specs.Split.{dataMost, countOf, pieceNumber}
+use Rattle.split.specs.Split.{dataMost, countOf}
 use Rattle.split.specs.Codes.{sub, nextOf}
 use Rattle.split.specs.declared.SubMessage.{SubMessage}
 use Rattle.split.proofs.SplitLaws.{piece-zero}
@@ -34,7 +32,7 @@ use Rattle.services.proofs.StateLaws.{Sendable, sendable-says}
 use Rattle.services.proofs.ReactionLaws.{sendsAnswer, either, every-service}
 use Rattle.unit.specs.State.{placeSent, possible}
 use Rattle.unit.specs.Call.{placeAsked, reactionAt, reactionTo}
-use Rattle.unit.specs.Piece.{pieceSent}
+use Rattle.unit.specs.Piece.{pieceAt, pieceSent}
 use Rattle.unit.proofs.StoreFacts.{InStore, found-in}
 
 -- What holds of every reaction: of those that send no answer, of the first sub message of the answer that is asked for, and of what follows
@@ -64,12 +62,11 @@ module _ (s : List ℕ) where
   data-most i = omega (arith, i .most)
 
   -- a sub message of an answer that lies in the store
-  piece-in : (start n k : ℕ) → InStore s start n → 1 ≤ k → k ≤ countOf (n - 2)
-      → pieceNumber (length (drop 2 (partAt start n s))) k ≡ 0
-  piece-in start n k i f l =
-      let inside : length (partAt start n s) ≡ n = length-part s start n (i .inside) in
-      let e : length (drop 2 (partAt start n s)) ≡ n - 2 = length-drop 2 (partAt start n s) ∙ ap (λ (m : ℕ). m - 2) inside in
-      rw e (piece-zero (n - 2) k (data-most i) f l)
+  piece-in : (place : Place) (k : ℕ) → InStore s (place .start) (place .len) → 1 ≤ k → k ≤ countOf (place .len - 2) → pieceAt s k place ≡ 0
+  unfolding pieceAt
+  piece-in place k i f l =
+      rw (le-leb 2 (place .len) (i .two), le-leb (place .start + place .len) (length s) (i .inside))
+      (piece-zero (place .len - 2) k (data-most i) f l)
 
   no-piece : (x : Reaction) → sendsAnswer x ≡ false → pieceSent s x ≡ 0
   unfolding pieceSent
@@ -93,7 +90,7 @@ module _ (s : List ℕ) where
       go : (t : Bool) → eqb (lookupPlace narrow asked s .number) 0 ≡ t
           → pieceSent s (cond t (AnswerSent name (sub 1) (lookupPlace narrow asked s)) (Negative 0x36 0xFA)) ≡ 0
       go true e =
-          piece-in (lookupPlace narrow asked s .start) (lookupPlace narrow asked s .len) 1 (found-in s asked (eqb-true _ _ e)) (omega arith) (count-some _)
+          piece-in (lookupPlace narrow asked s) 1 (found-in s asked (eqb-true _ _ e)) (omega arith) (count-some _)
       go false e = refl
 
   -- what is known of the answer that is being sent
@@ -108,7 +105,7 @@ module _ (s : List ℕ) where
     sent-piece : (k : SubMessage) → 1 ≤ k .0 → k .0 ≤ countOf (dataLengthAt (placeSent s (u .phase)))
         → pieceSent s (AnswerSent name k (placeSent s (u .phase))) ≡ 0
     unfolding pieceSent
-    sent-piece k f l = piece-in (placeSent s (u .phase) .start) (placeSent s (u .phase) .len) (k .0) sent-in f l
+    sent-piece k f l = piece-in (placeSent s (u .phase)) (k .0) sent-in f l
 
     -- a number among the sub messages goes on without wrapping
     next-is : last .0 + 1 ≤ countOf (dataLengthAt (placeSent s (u .phase))) → nextOf last .0 ≡ last .0 + 1

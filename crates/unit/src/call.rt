@@ -49,11 +49,12 @@ fn on_good(
     frame: &[u8],
     data: &[u8],
 ) -> Reaction
+    requires { ⌜ judged addresses ends.Unit (now frame) ≡ 0 ⌝ }
     requires { ⌜ now «data» ≡ dataOf addresses ends.Unit (now frame) ⌝ }
     ensures { λ r. ⌜ r ≡ reactionAt addresses sent asked state (now (frame .entry)) ⌝ }
 {
     let phase = state.phase;
-    if octets::byte::byte_at(frame, 0) == WITHOUT_LEN {
+    if frame[0] == WITHOUT_LEN {
         return Reaction::CommunicationStarted;
     }
     if services::state::is_closed(phase) {
@@ -72,6 +73,7 @@ fn reaction_to(
     data: &[u8],
     number: u8,
 ) -> Reaction
+    requires { ⌜ number ≡ judged addresses ends.Unit (now frame) ⌝ }
     requires { ⌜ now «data» ≡ dataOf addresses ends.Unit (now frame) ⌝ }
     ensures { λ r. ⌜
         r
@@ -152,7 +154,9 @@ pub fn step(
         };
     }
     let place = frame::check::locate(addresses, frame, End::Unit);
-    let data = octets::buffer::part(frame, place);
+    let start = place.start;
+    let end = start + place.len;
+    let data = &frame[start..end];
     let found = store::read::locate_both(
         store,
         services::state::name_sent(phase),

@@ -10,16 +10,15 @@ use frame::messages::UPLOAD_GRANTED;
 use octets::Place;
 use octets::wire::NEGATIVE;
 use services::Reaction;
-use split::Received;
 use split::SubMessage;
 ghost use mathlib.Core.Path.{_≡_};
 ghost use Prim.Native.Nat.{_≤_, _<_};
 ghost use lib.ListN.{length};
 ghost use Rattle.octets.specs.Buffer.{front};
 ghost use Rattle.frame.specs.Frame.{frameMost};
-ghost use Rattle.split.specs.Split.{pieceNumber, subField};
+ghost use Rattle.split.specs.Split.{subField};
 ghost use Rattle.unit.specs.Call.{dataIn, replyData, replyTo};
-ghost use Rattle.unit.specs.Piece.{pieceSent};
+ghost use Rattle.unit.specs.Piece.{pieceAt, pieceSent};
 
 fn send(addresses: Addresses, data: &[u8], reply: &mut [u8]) -> usize
     requires { ⌜ 0 < length (now «data») ⌝ }
@@ -31,8 +30,7 @@ fn send(addresses: Addresses, data: &[u8], reply: &mut [u8]) -> usize
     frame::write::write(addresses, data, End::Tool, reply).len
 }
 
-// A sub message of the answer at this place. Its data lies behind 76 and TREP, as in a frame that carries the whole
-// answer.
+// A sub message of the answer at this place. Its data lies behind 76 and TREP.
 fn send_answer(
     addresses: Addresses,
     store: &[u8],
@@ -41,7 +39,7 @@ fn send_answer(
     place: Place,
     reply: &mut [u8],
 ) -> usize
-    requires { ⌜ pieceNumber (length (dataIn (now store) place)) (message .0) ≡ 0 ⌝ }
+    requires { ⌜ pieceAt (now store) (message .0) place ≡ 0 ⌝ }
     requires { ⌜ frameMost ≤ length (now reply) ⌝ }
     ensures { λ r. ⌜ r ≡ length (replyTo addresses (subField trep (message .0) (dataIn (now (store .entry)) place))) ⌝ }
     ensures { λ _. ⌜
@@ -50,8 +48,10 @@ fn send_answer(
         (now (reply .entry))
         ⌝ }
 {
-    let answer = octets::buffer::part(store, place);
-    let data = split::join::carried(answer, Received::Whole);
+    let start = place.start;
+    let first = start + 2;
+    let end = start + place.len;
+    let data = &store[first..end];
     split::write::write_sub_message(addresses, data, trep, message, reply).len
 }
 

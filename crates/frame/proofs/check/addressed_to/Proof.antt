@@ -1,12 +1,12 @@
--- Target, source and form decide in this order.
-use Rattle.octets.proofs.Tests.{picks, eq-given, ne-given}
-use Rattle.frame.specs.Frame.{addressed}
+-- Form, target and source decide in this order.
+use Rattle.frame.proofs.CheckLaws.{address-form, address-target, address-source}
 use borrow.Author.Needs.{needs}
 use Rattle.frame.proofs.check.addressed_to.Statement.{statement}
 use Rattle.frame.proofs.check.addressed_to.Tie as tie
 
+ruleset all = (needs, address-form, address-target, address-source)
+
 pub addressed-to-spec : {M : Type 1} → statement M
-unfolding addressed
 addressed-to-spec =
     tie.close
     (tie.spec
@@ -14,9 +14,7 @@ addressed-to-spec =
     (λ c κs. search needs)
     (λ c. search needs)
     (λ c. search needs)
-    (λ c. search (picks, eq-given, ne-given) depth 9)
-    (λ c. search (picks, eq-given, ne-given) depth 9)
-    (λ c. search needs)
-    (λ c. search (picks, eq-given) depth 9)
     (λ c κs. search needs)
-    (λ c. search (picks, eq-given) depth 9))
+    (λ c. search all)
+    (λ c. search all)
+    (λ c. search all))

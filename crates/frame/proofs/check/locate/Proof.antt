@@ -1,10 +1,10 @@
 -- Refused, the part is empty; else the form says where the data lies.
-use Rattle.frame.proofs.CheckLaws.{place-none, place-start, place-general}
+use Rattle.frame.proofs.CheckLaws.{good-five, place-none, place-good}
 use borrow.Author.Needs.{needs}
 use Rattle.frame.proofs.check.locate.Statement.{statement}
 use Rattle.frame.proofs.check.locate.Tie as tie
 
-ruleset all = (needs, place-none, place-start, place-general)
+ruleset all = (needs, good-five, place-none, place-good)
 
 pub locate-spec : {M : Type 1} → statement M
 locate-spec =
@@ -13,8 +13,5 @@ locate-spec =
     (λ c κs. search all)
     (λ c κs. search all)
     (λ c. search all)
-    (λ c κs. search all)
-    (λ c. search all)
-    (λ c κs. search all)
     (λ c κs. search all)
     (λ c. search all))

@@ -1,4 +1,5 @@
 -- The start by its first byte, silence, or the data.
+use Rattle.frame.proofs.CheckLaws.{good}
 use Rattle.unit.proofs.CallLaws.{reaction-start, reaction-ignored, reaction-data}
 use borrow.Author.Needs.{needs}
 use Rattle.unit.proofs.call.on_good.Statement.{statement}
@@ -10,7 +11,7 @@ pub on-good-spec : {M : Type 1} → statement M
 on-good-spec =
     tie.close
     (tie.spec
-    (λ c κs. search all)
+    (λ c. let five = good _ _ _ (c .before .before .before .pre .0) .five in search needs)
     (λ c. search all)
     (λ c κs. search all)
     (λ c. search all)
