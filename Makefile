@@ -11,7 +11,7 @@ INCLUDES := -Ihost/include -Ihost/tests/reference -Ihost/demo
 VERSION := $(shell sed -n 's/^#define TACHO_VERSION "\(.*\)"$$/\1/p' host/include/tacho.h)
 PREFIX ?= /usr/local
 PROGRAMS := bench_unit download sample_store
-TESTS := addresses days differential download_test faults line_test slow_peer wide
+TESTS := addresses days differential download_test faults line_test slow_peer
 
 .PHONY: help test run prove bench bench-count library programs tests install clean
 help:
@@ -78,21 +78,20 @@ plain = $(1:%=$(BUILT)/plain/%.o)
 checked = $(1:%=$(BUILT)/checked/%.o)
 
 $(BUILT)/bench_unit: $(call plain,demo/bench_unit demo/line demo/clock demo/options) $(LIBRARY)
-$(BUILT)/download: $(call plain,demo/download demo/line demo/clock demo/options demo/progress) $(LIBRARY)
+$(BUILT)/download: $(call plain,demo/download demo/line demo/clock demo/options) $(LIBRARY)
 $(BUILT)/sample_store: $(call plain,demo/sample_store demo/options) $(LIBRARY)
 $(BUILT)/bench: $(call plain,bench/bench $(REFERENCE)) $(LIBRARY)
 $(PROGRAMS:%=$(BUILT)/%) $(BUILT)/bench:
 	@gcc $(CFLAGS) $^ -o $@
 
 # the slow peer is written without the library
-$(BUILT)/addresses: $(call checked,tests/addresses tests/readdressed tests/support tests/wanted $(REFERENCE)) $(LIBRARY)
+$(BUILT)/addresses: $(call checked,tests/addresses tests/readdressed tests/support $(REFERENCE)) $(LIBRARY)
 $(BUILT)/days: $(call checked,tests/days tests/spoilt tests/support $(REFERENCE)) $(LIBRARY)
-$(BUILT)/differential: $(call checked,$(addprefix tests/,compared differential inputs limits readdressed spoilt support) $(REFERENCE)) $(LIBRARY)
-$(BUILT)/download_test: $(call checked,tests/download tests/readdressed tests/support tests/transfer $(REFERENCE)) $(LIBRARY)
+$(BUILT)/differential: $(call checked,tests/differential tests/inputs tests/readdressed tests/spoilt tests/support $(REFERENCE)) $(LIBRARY)
+$(BUILT)/download_test: $(call checked,tests/download tests/readdressed tests/support $(REFERENCE)) $(LIBRARY)
 $(BUILT)/faults: $(call checked,tests/faults tests/spoilt tests/support $(REFERENCE)) $(LIBRARY)
 $(BUILT)/line_test: $(call checked,tests/line demo/line demo/clock) $(LIBRARY)
 $(BUILT)/slow_peer: $(call checked,tests/slow_peer demo/options demo/clock $(REFERENCE))
-$(BUILT)/wide: $(call checked,$(addprefix tests/,readdressed support transfer wanted wide) $(REFERENCE)) $(LIBRARY)
 $(TESTS:%=$(BUILT)/%):
 	@gcc $(CFLAGS) $(CHECKED) $^ -o $@
 

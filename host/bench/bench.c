@@ -4,7 +4,7 @@
  *
  *   bench                            every case: nanoseconds a call, and the ratio
  *   bench CASE proved|reference N    one case N times, for counting instructions
- *   bench --names                    the names of the cases, each with how often it is to be counted
+ *   bench --names                    the names of the cases
  */
 #define _POSIX_C_SOURCE 200809L
 #include "reference.h"
@@ -43,37 +43,26 @@ typedef struct {
     }
 static const side proved = SIDE(tacho), reference = SIDE(ref);
 
-/* A bench store in a buffer with room for the longest of its form. */
+/* A bench store in a buffer with room for more. */
 typedef struct {
-    uint8_t *bytes;
-    size_t room, len;
+    uint8_t bytes[TACHO_STORE_MOST];
+    size_t len;
 } store;
 
 enum { ANSWERS_MOST = 64, RECORD_SIZE = 5, RECORDS = 9999, ARRAY_HEADER = 5 };
-
-/* The longest answer of an old store; in the wide store of 30 megabytes two answers are half of it each, and so many are appended. */
-enum { OLD_ANSWER_MOST = 60000, HALF = 15000000, APPENDED = 8 };
 
 /* Other addresses than the lab's. */
 enum { OTHER_UNIT = TACHO_UNIT_ADDRESS, OTHER_TOOL = 0xFB };
 
 /* The inputs, which no case changes: a case that changes a state or a store has a copy of it. */
-static store one, many, all_but_one, full, rising, mixed, falling, longest, half_full, wide_64;
+static store one, many, all_but_one, full, rising, mixed, falling;
 static uint8_t granted[TACHO_UNIT_STATE], fresh[TACHO_TOOL_STATE], begun[TACHO_TOOL_STATE];
-static uint8_t answer[OLD_ANSWER_MOST], long_answer[TACHO_ANSWER_MOST], frame[TACHO_FRAME_MOST], other_frame[TACHO_FRAME_MOST];
+static uint8_t answer[TACHO_ANSWER_MOST], frame[TACHO_FRAME_MOST], other_frame[TACHO_FRAME_MOST];
 static uint8_t body[ARRAY_HEADER + RECORD_SIZE * RECORDS];
 
 /* What the cases write to. */
-static uint8_t work[TACHO_WIDE_STORE_MOST], room[TACHO_ANSWER_MOST], out[TACHO_FRAME_MOST];
+static uint8_t work[TACHO_STORE_MOST], room[TACHO_ANSWER_MOST], out[TACHO_FRAME_MOST];
 static volatile size_t sink;
-
-/* Ends the benchmark where an input could not be made as it was meant, or a long case did not do its work. */
-static void made(bool as_meant, const char *what)
-{
-    if (as_meant) return;
-    fprintf(stderr, "bench: %s was not made\n", what);
-    exit(1);
-}
 
 /* Shorter than a turn of eight, one turn, turns and a rest; a full frame, and all of the longest answer. */
 static void sum_5(const side *c)
@@ -148,29 +137,18 @@ static void arrival_elsewhere(const side *c)
                                sizeof out).len;
 }
 
-/* Of detailed speed, `answer_len` bytes with 76 and TREP. The tool puts a frame out until it is done: on this line nothing is lost. */
-static void download(const side *c, const store *s, size_t answer_len)
+/* The tool puts a frame out until it is done: on this line nothing is lost. */
+static void download(const side *c)
 {
     uint8_t unit[TACHO_UNIT_STATE], tool[TACHO_TOOL_STATE], reply[TACHO_FRAME_MOST];
     memcpy(unit, granted, sizeof unit);
     memcpy(tool, fresh, sizeof tool);
     size_t n = c->tool_begin(tool, sizeof tool, TACHO_REQUEST_TRANSFER, 0x24, 0, out, sizeof out).len;
     while (n > 0) {
-        size_t r = c->unit_step(unit, sizeof unit, s->bytes, s->len, out, n, reply, sizeof reply).len;
-        n = c->tool_arrived(tool, sizeof tool, reply, r, room, answer_len, out, sizeof out).len;
+        size_t r = c->unit_step(unit, sizeof unit, full.bytes, full.len, out, n, reply, sizeof reply).len;
+        n = c->tool_arrived(tool, sizeof tool, reply, r, room, sizeof room, out, sizeof out).len;
     }
-    made(tool[TACHO_TOOL_AT_OUTCOME] == TACHO_OUTCOME_DONE, "a whole download");
-    sink += room[answer_len - 1];
-}
-
-static void download_59998(const side *c)
-{
-    download(c, &full, OLD_ANSWER_MOST);
-}
-
-static void download_16449033(const side *c)
-{
-    download(c, &longest, TACHO_ANSWER_MOST);
+    sink += room[sizeof room - 1]; /* the last byte of the answer */
 }
 
 static void check_1(const side *c)
@@ -200,25 +178,10 @@ static void check_falling(const side *c)
     sink += c->store_check(falling.bytes, falling.len);
 }
 
-static void check_wide(const side *c)
-{
-    sink += c->store_check(wide_64.bytes, wide_64.len);
-}
-
 static void append(const side *c)
 {
     memcpy(work, all_but_one.bytes, all_but_one.len);
-    sink += c->store_append(work, all_but_one.room, answer, 2000, 86400 * 1000).len;
-}
-
-/* Each append moves the stream by an entry; the copy at the begin is the ninth time that it is gone over. */
-static void append_wide(const side *c)
-{
-    size_t len = half_full.len;
-    memcpy(work, half_full.bytes, len);
-    for (uint32_t day = 0; day < APPENDED; day++) len = c->store_append(work, half_full.room, answer, 2000, 86400 * day).len;
-    made(len > half_full.len, "an append to 30 megabytes");
-    sink += len;
+    sink += c->store_append(work, sizeof work, answer, 2000, 86400 * 1000).len;
 }
 
 static void records(const side *c)
@@ -227,95 +190,49 @@ static void records(const side *c)
     for (size_t k = 0; k < a.count; k++) sink += c->record_at(body, sizeof body, 0, k).start;
 }
 
-/* The cases: how often each is run for its time and for its instructions, and whether it needs the wide stores. Instructions of a long
- * case are counted once: under valgrind one download of 16,449,033 bytes takes some seconds. */
-typedef struct {
+static const struct {
     const char *name;
     void (*run)(const side *);
-    unsigned reps, counted;
-    bool wide;
-} bench_case;
-
-static const bench_case cases[] = {
-    {"checksum-of-5-bytes", sum_5, 200000, 50, false},
-    {"checksum-of-8-bytes", sum_8, 200000, 50, false},
-    {"checksum-of-17-bytes", sum_17, 200000, 50, false},
-    {"checksum-of-260-bytes", sum_260, 200000, 50, false},
-    {"checksum-of-60000-bytes", sum_60000, 2000, 50, false},
-    {"frame-check-260-bytes", frame_judged, 200000, 50, false},
-    {"unit-call-1-answer", unit_call_1, 200000, 50, false},
-    {"unit-call-64-answers", unit_call_64, 20000, 50, false},
-    {"unit-call-1-answer-ee-fb", unit_call_elsewhere, 200000, 50, false},
-    {"tool-arrival", arrival, 200000, 50, false},
-    {"tool-arrival-ee-fb", arrival_elsewhere, 200000, 50, false},
-    {"download-59998-bytes", download_59998, 200, 50, false},
-    {"store-check-1-answer", check_1, 200000, 50, false},
-    {"store-check-64-answers", check_64, 20000, 50, false},
-    {"store-check-64-rising-names", check_rising, 20000, 50, false},
-    {"store-check-64-mixed-names", check_mixed, 20000, 50, false},
-    {"store-check-64-falling-names", check_falling, 20000, 50, false},
-    {"append-to-63-answers", append, 20000, 50, false},
-    {"all-records-of-50000-bytes", records, 200, 50, false},
-    {"store-check-64-answers-wide", check_wide, 20000, 50, true},
-    {"append-8-to-30-megabytes", append_wide, 1, 1, true},
-    {"download-16449033-bytes", download_16449033, 1, 1, true},
+    unsigned reps;
+} cases[] = {
+    {"checksum-of-5-bytes", sum_5, 200000},               {"checksum-of-8-bytes", sum_8, 200000},
+    {"checksum-of-17-bytes", sum_17, 200000},             {"checksum-of-260-bytes", sum_260, 200000},
+    {"checksum-of-60000-bytes", sum_60000, 2000},         {"frame-check-260-bytes", frame_judged, 200000},
+    {"unit-call-1-answer", unit_call_1, 200000},          {"unit-call-64-answers", unit_call_64, 20000},
+    {"unit-call-1-answer-ee-fb", unit_call_elsewhere, 200000},
+    {"tool-arrival", arrival, 200000},                    {"tool-arrival-ee-fb", arrival_elsewhere, 200000},
+    {"download-59998-bytes", download, 200},
+    {"store-check-1-answer", check_1, 200000},            {"store-check-64-answers", check_64, 20000},
+    {"store-check-64-rising-names", check_rising, 20000}, {"store-check-64-mixed-names", check_mixed, 20000},
+    {"store-check-64-falling-names", check_falling, 20000},
+    {"append-to-63-answers", append, 20000},              {"all-records-of-50000-bytes", records, 200},
 };
 enum { COUNT = sizeof cases / sizeof *cases, ROUNDS = 15 };
 
-/* An empty store, in a buffer with room for the longest. */
-static store empty(const ref_form *form)
+/* Ends the benchmark where an input could not be made as it was meant. */
+static void made(bool as_meant, const char *what)
 {
-    size_t most = form == &REF_WIDE ? TACHO_WIDE_STORE_MOST : TACHO_OLD_STORE_MOST;
-    store s = {malloc(most), most, 0};
-    made(s.bytes != NULL, "a buffer");
-    s.len = ref_store_empty(form, s.bytes);
-    return s;
+    if (as_meant) return;
+    fprintf(stderr, "bench: %s was not made\n", what);
+    exit(1);
 }
 
-/* The front of the long answer goes into the store, under this TREP and day. */
-static void put_long(store *s, uint8_t trep, size_t len, uint32_t day)
+/* The front of the answer goes into the store, under this TREP and day. */
+static void put(store *s, uint8_t trep, size_t len, uint32_t day)
 {
-    long_answer[1] = trep;
-    tacho_written w = tacho_store_append(s->bytes, s->room, long_answer, len, day);
+    answer[1] = trep;
+    tacho_written w = tacho_store_append(s->bytes, sizeof s->bytes, answer, len, day);
     made(w.number == TACHO_OK, "a store");
     s->len = w.len;
 }
 
-/* That of the answer of at most 60,000 bytes. */
-static void put(store *s, uint8_t trep, size_t len, uint32_t day)
-{
-    answer[1] = trep;
-    memcpy(long_answer, answer, len);
-    put_long(s, trep, len, day);
-}
-
-/* The longest answer; two answers of 15,000,000 bytes; the same behind 62 short ones. */
-static void make_wide_stores(void)
-{
-    memset(long_answer, 0x5A, sizeof long_answer);
-    long_answer[0] = 0x76;
-    longest = empty(&REF_WIDE);
-    half_full = empty(&REF_WIDE);
-    wide_64 = empty(&REF_WIDE);
-    put_long(&longest, 0x24, sizeof long_answer, 0);
-    for (uint32_t day = 0; day < ANSWERS_MOST - 2; day++) put_long(&wide_64, 0x32, 2, 86400 * day);
-    for (uint8_t trep = 0x24; trep <= 0x25; trep++) {
-        put_long(&half_full, trep, HALF, 0);
-        put_long(&wide_64, trep, HALF, 0);
-    }
-}
-
 static void make_stores(void)
 {
-    store *const stores[] = {&one, &many, &all_but_one, &full, &rising, &mixed, &falling};
-    for (size_t i = 0; i < sizeof stores / sizeof *stores; i++) *stores[i] = empty(&REF_OLD);
     for (size_t i = 0; i < sizeof answer; i++) answer[i] = (uint8_t)(i * 31);
     answer[0] = 0x76;
     put(&one, 0x00, 4, 0);
-    for (uint32_t day = 0; day < ANSWERS_MOST - 1; day++) {
-        put(&all_but_one, 0x32, 2, 86400 * day);
-        put(&many, 0x32, 2, 86400 * day);
-    }
+    for (uint32_t day = 0; day < ANSWERS_MOST - 1; day++) put(&all_but_one, 0x32, 2, 86400 * day);
+    many = all_but_one;
     put(&many, 0x00, 2, 0);
     for (uint32_t i = 0; i < ANSWERS_MOST; i++) {
         put(&rising, 0x32, 2, 86400 * i);
@@ -376,7 +293,6 @@ static int run_one(const char *name, const char *which, unsigned long reps)
     const side *of = strcmp(which, "proved") ? &reference : &proved;
     for (size_t k = 0; k < COUNT; k++)
         if (strcmp(name, cases[k].name) == 0) {
-            if (cases[k].wide) make_wide_stores();
             for (unsigned long i = 0; i < reps; i++) cases[k].run(of);
             return 0;
         }
@@ -386,7 +302,6 @@ static int run_one(const char *name, const char *which, unsigned long reps)
 
 static void run_all(void)
 {
-    make_wide_stores();
     printf("%-28s %12s %12s %8s\n", "case", "proved ns", "plain C ns", "ratio");
     for (size_t k = 0; k < COUNT; k++) {
         double least[2] = {1e18, 1e18};
@@ -407,7 +322,7 @@ int main(int argc, char **argv)
     make_body();
     if (argc == 4) return run_one(argv[1], argv[2], strtoul(argv[3], NULL, 10));
     if (argc == 2 && strcmp(argv[1], "--names") == 0) {
-        for (size_t k = 0; k < COUNT; k++) printf("%s %u\n", cases[k].name, cases[k].counted);
+        for (size_t k = 0; k < COUNT; k++) puts(cases[k].name);
         return 0;
     }
     run_all();

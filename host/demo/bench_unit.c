@@ -10,7 +10,7 @@
 
 static const char help[] =
     "bench_unit: a teaching vehicle unit that serves a store file\n"
-    "  --store FILE     the bench store (docs/PROTOCOL.md), old or wide; bytes behind it are not looked at\n"
+    "  --store FILE     the bench store (docs/PROTOCOL.md); bytes behind it are not looked at\n"
     "  --line PATH      the serial port to listen on: raw, 8 data bits, one stop bit, 9,600 baud at first; the unit changes the rate\n"
     "                   where the tool confirms a change\n"
     "  --pty FILE       make a pseudo-terminal instead, and write the path of its other end to FILE;\n"
@@ -30,7 +30,6 @@ static const char help[] =
     "  --seed N         of the line's faults (default 1)\n"
     "  --idle N         end after N seconds without a byte (default 10)\n"
     "  --list           write what the store holds, in the form of download's --answers, and end\n"
-    "  --lengths        with --list, the bytes of each answer too, behind =\n"
     "  --stream FILE    write the store's stream to the file, each answer as 76, TREP, data, back to back (DDP_034), and end\n"
     "Ends with status 0 half a second after communication was stopped, unless it is started again, 1 when the line was idle or is gone,\n"
     "2 for bad options or files.\n";
@@ -45,11 +44,8 @@ typedef struct {
     const char *store, *line, *pty, *stream, *parity, *unit, *tool;
     uint8_t unit_address, tool_address;
     unsigned long kind, rate, lose, repeat, spoil, seed, idle, silence, delay, gap;
-    bool list, lengths, help;
+    bool list, help;
 } settings;
-
-/* The longest file with a store: the longest store, and as much behind it. */
-enum { FILE_MOST = 2 * TACHO_WIDE_STORE_MOST };
 
 static line_port port_of(const settings *s)
 {
@@ -65,7 +61,7 @@ static bool read_settings(int argc, char **argv, settings *s)
         {"lose", NULL, &s->lose, 1000, NULL},    {"repeat", NULL, &s->repeat, 1000, NULL}, {"spoil", NULL, &s->spoil, 1000, NULL},
         {"seed", NULL, &s->seed, 0xFFFFFFFFUL, NULL}, {"idle", NULL, &s->idle, 86400, NULL}, {"help", NULL, NULL, 0, &s->help},
         {"list", NULL, NULL, 0, &s->list},       {"stream", &s->stream, NULL, 0, NULL},    {"unit", &s->unit, NULL, 0, NULL},
-        {"tool", &s->tool, NULL, 0, NULL},       {"lengths", NULL, NULL, 0, &s->lengths},
+        {"tool", &s->tool, NULL, 0, NULL},
     };
     if (!options_read(argc, argv, options, sizeof options / sizeof *options, 0)) return false;
     if (s->help) return true;
@@ -74,22 +70,17 @@ static bool read_settings(int argc, char **argv, settings *s)
         fputs("--store and one of --line, --pty, --list and --stream are needed; --help says more\n", stderr);
         return false;
     }
-    if (s->lengths && !s->list) {
-        fputs("--lengths is for --list\n", stderr);
-        return false;
-    }
     line_port port = port_of(s);
     return line_port_check(&port) && faults_check(s->lose, s->repeat, s->spoil);
 }
 
-/* Says what is broken in the store, where, and in which form it was read. The header's bytes alone have the fault 13 at the count of
- * answers: so the count of a broken store is known too. */
+/* Says what is broken in the store, and where. The first four bytes alone, which are its header, have the fault 13 at the count of answers:
+ * so the count of a broken store is known too. */
 static void say_store_fault(const char *path, const uint8_t *store, size_t store_len, tacho_fault f)
 {
-    bool wide = store_len >= 2 && store[0] == 0xFF && store[1] == 0xFF;
-    size_t header = wide ? 10 : 4, count = store_len < header ? 0 : tacho_store_fault(store, header).position;
-    fprintf(stderr, "'%s', read as %s store: %s (%u): ", path, wide ? "a wide" : "an old", tacho_number_text(f.number), f.number);
-    if (store_len < header) fprintf(stderr, "there is no whole header of %zu bytes\n", header);
+    size_t header = 4, count = store_len < header ? 0 : tacho_store_fault(store, header).position;
+    fprintf(stderr, "'%s': %s (%u): ", path, tacho_number_text(f.number), f.number);
+    if (store_len < header) fputs("there is no whole header\n", stderr);
     else if (f.number == TACHO_STORE_SHORT || f.number == TACHO_STORE_BOUNDS)
         fprintf(stderr, "the header's count of answers is %zu\n", count);
     else if (f.number == TACHO_STORE_ENTRY && f.position == count)
@@ -110,14 +101,13 @@ static bool ready(const settings *s, const uint8_t *store, size_t store_len, uin
     return number == TACHO_OK;
 }
 
-/* What a checked store holds, as 00,31,32@86400, or with lengths as 00=4,31=902,32@86400=504: the status. */
-static int list(const uint8_t *store, size_t store_len, bool lengths)
+/* What a checked store holds, as 00,31,32@86400: the status. */
+static int list(const uint8_t *store, size_t store_len)
 {
     size_t count = tacho_store_count(store, store_len).count;
     for (size_t k = 0; k < count; k++) {
         tacho_held h = tacho_store_answer(store, store_len, k);
         printf(h.day ? "%s%02X@%lu" : "%s%02X", k ? "," : "", h.trep, (unsigned long)h.day);
-        if (lengths) printf("=%zu", h.len);
     }
     return putchar('\n') < 0 || fflush(stdout) ? 2 : 0;
 }
@@ -177,14 +167,14 @@ int main(int argc, char **argv)
     uint8_t state[TACHO_UNIT_STATE];
     if (!read_settings(argc, argv, &s)) return 2;
     if (s.help) return help_said(help);
-    uint8_t *store = file_read(s.store, FILE_MOST, &store_len);
+    uint8_t *store = file_read(s.store, 1 << 20, &store_len);
     if (!store) return 2;
     if (!ready(&s, store, store_len, state)) {
         free(store);
         return 2;
     }
     if (s.list || s.stream) {
-        int status = s.list ? list(store, store_len, s.lengths) : write_stream(s.stream, store, store_len);
+        int status = s.list ? list(store, store_len) : write_stream(s.stream, store, store_len);
         free(store);
         return status;
     }

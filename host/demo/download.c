@@ -2,13 +2,13 @@
 #include "clock.h"
 #include "line.h"
 #include "options.h"
-#include "progress.h"
 #include "tacho.h"
 
 #include <ctype.h>
 #include <stdio.h>
 #include <stdlib.h>
 #include <string.h>
+#include <unistd.h>
 
 static const char help[] =
     "download: downloads answers from a vehicle unit\n"
@@ -17,8 +17,7 @@ static const char help[] =
     "  --parity WHICH   even, odd or none (default even: Appendix 6 asks for it, which is not among this\n"
     "                   build's sources)\n"
     "  --answers LIST   what to ask for, in this order: TREPs in hexadecimal, activities with any second of the day since 1970 (0 where\n"
-    "                   none stands), as 00,31,32@129600,33,24,35; what is listed twice comes twice, a day by two of its seconds too;\n"
-    "                   the bytes of an answer, 76 and TREP counted, may stand behind =, as 24=4000002: the progress shows what is left\n"
+    "                   none stands), as 00,31,32@129600,33,24,35; what is listed twice comes twice, a day by two of its seconds too\n"
     "  --out FILE       where the stream goes when all was downloaded: each answer as 76, TREP, data, back to back (DDP_034)\n"
     "  --unit XX        the unit's address, two hexadecimal digits, with or without 0x in front (default EE)\n"
     "  --tool XX        the tool's address (default F0)\n"
@@ -31,7 +30,6 @@ static const char help[] =
     "  --tries N        how often a request is begun, each with three sendings (DDP_027; default 1)\n"
     "  --lose N --repeat N --spoil N   of a thousand frames (default 0)\n"
     "  --seed N         of the faults (default 2)\n"
-    "  --progress       show bytes held and their rate on standard error, a line each second; a terminal shows them without it\n"
     "Ends with status 0 when all was downloaded, 1 when the unit refused or did not answer or the line is gone, 2 for bad options or files.\n";
 
 /* The wait for a reply behind "response pending": P2 is then as long as P3 may be (DDP_019). */
@@ -40,15 +38,6 @@ enum { PENDING_MS = 5000 };
 static line l = {.fd = -1, .other = -1, .unit_address = TACHO_UNIT_ADDRESS, .tool_address = TACHO_TOOL_ADDRESS};
 static uint8_t state[TACHO_TOOL_STATE], room[TACHO_ANSWER_MOST];
 static unsigned long wait_ms = 1000, tries = 1;
-static bool progress_asked;
-
-/* A request: of a transfer its TREP, second and the answer's length, 0 where that is not known; and what it is in words. */
-typedef struct {
-    const char *what;
-    uint8_t request, trep;
-    uint32_t day;
-    size_t length;
-} asked;
 
 static size_t held(void)
 {
@@ -78,6 +67,17 @@ static tacho_written wait_ended(uint8_t *out)
     return tacho_tool_wait_ended_at(l.unit_address, l.tool_address, state, sizeof state, room, sizeof room, out, TACHO_FRAME_MOST);
 }
 
+static void progress(const char *what, bool end)
+{
+    static size_t shown;
+    if (!isatty(STDERR_FILENO)) return;
+    if (end || held() < shown || held() >= shown + 4096) {
+        shown = end ? 0 : held();
+        fprintf(stderr, "\r%-46s %8zu bytes%s", what, held(), end ? "\r" : "");
+        fflush(stderr);
+    }
+}
+
 /* Whether the unit says that it has heard the request and its response is pending. */
 static bool is_pending(const uint8_t *string, size_t len)
 {
@@ -86,18 +86,14 @@ static bool is_pending(const uint8_t *string, size_t len)
 }
 
 /* One request to its end; false with a message where the line is gone or a call was refused. */
-static bool run(asked a)
+static bool run(uint8_t request, uint8_t trep, uint32_t day, const char *what)
 {
     uint8_t out[TACHO_FRAME_MOST], string[LINE_STRING_MOST];
     long end = 0;
-    progress shown = progress_begin(a.request == TACHO_REQUEST_TRANSFER ? a.what : NULL, a.length, progress_asked);
-    tacho_written w = begin(state, a.request, a.trep, a.day, out);
+    tacho_written w = begin(state, request, trep, day, out);
     while (w.number == TACHO_OK) {
         if (!line_send(&l, out, w.len)) break;
-        if (outcome() != TACHO_OUTCOME_WAITING) {
-            progress_end(&shown, held());
-            return true;
-        }
+        if (outcome() != TACHO_OUTCOME_WAITING) return true;
         /* the wait counts from the last sending: frames that the tool ignores do not make it longer */
         if (w.len > 0) end = clock_now() + (long)wait_ms;
         long left = end - clock_now();
@@ -105,16 +101,15 @@ static bool run(asked a)
         if (n < 0) break;
         if (n > 0 && is_pending(string, (size_t)n) && end < clock_now() + PENDING_MS) end = clock_now() + PENDING_MS;
         w = n > 0 ? arrived(string, (size_t)n, out) : wait_ended(out);
-        progress_show(&shown, held());
+        progress(what, outcome() != TACHO_OUTCOME_WAITING);
     }
-    progress_end(&shown, held());
-    if (w.number) fprintf(stderr, "%s: %s (%u)\n", a.what, tacho_number_text(w.number), w.number);
-    else fprintf(stderr, "%s: the line is gone\n", a.what);
+    if (w.number) fprintf(stderr, "%s: %s (%u)\n", what, tacho_number_text(w.number), w.number);
+    else fprintf(stderr, "%s: the line is gone\n", what);
     return false;
 }
 
 /* The same, begun again where no answer came; false with a message. */
-static bool ask(asked a)
+static bool ask(uint8_t request, uint8_t trep, uint32_t day, const char *what)
 {
     uint8_t late[LINE_STRING_MOST];
     unsigned long begun = 0;
@@ -123,16 +118,16 @@ static bool ask(asked a)
         long end = clock_now() + (long)wait_ms;
         for (long left; begun > 0 && (left = end - clock_now()) > 0;)
             if (line_receive(&l, late, sizeof late, (unsigned long)left, true) <= 0) break;
-        if (!run(a)) return false;
+        if (!run(request, trep, day, what)) return false;
         begun++;
     } while (begun < tries && outcome() == TACHO_OUTCOME_NO_ANSWER);
     switch (outcome()) {
     case TACHO_OUTCOME_DONE: return true;
-    case TACHO_OUTCOME_NO_ANSWER: fprintf(stderr, "%s: no answer after %lu sendings\n", a.what, begun * 3); break;
-    case TACHO_OUTCOME_NO_ROOM: fprintf(stderr, "%s: the answer does not fit %d bytes\n", a.what, TACHO_ANSWER_MOST); break;
+    case TACHO_OUTCOME_NO_ANSWER: fprintf(stderr, "%s: no answer after %lu sendings\n", what, begun * 3); break;
+    case TACHO_OUTCOME_NO_ROOM: fprintf(stderr, "%s: the answer does not fit %d bytes\n", what, TACHO_ANSWER_MOST); break;
     case TACHO_OUTCOME_REFUSED: {
         uint8_t code = (uint8_t)tacho_tool_code(state, sizeof state);
-        fprintf(stderr, "%s: the unit says %02X, %s\n", a.what, code, tacho_code_text(code));
+        fprintf(stderr, "%s: the unit says %02X, %s\n", what, code, tacho_code_text(code));
         break;
     }
     default: break;
@@ -140,25 +135,20 @@ static bool ask(asked a)
     return false;
 }
 
-/* A number up to `most` behind this sign, 0 where the sign does not stand there; false where the sign has no such number. */
-static bool number_behind(char sign, char **text, unsigned long most, unsigned long *number)
-{
-    const char *from = *text + 1;
-    *number = 0;
-    if (**text != sign) return true;
-    *number = strtoul(from, text, 10);
-    return isdigit((unsigned char)*from) && *number <= most;
-}
-
 /* The next answer of the list: false where it is malformed, as by a blank, a sign or a comma behind the last one. */
-static bool next_answer(const char **list, asked *a)
+static bool next_answer(const char **list, uint8_t *trep, uint32_t *day)
 {
     char *end;
-    unsigned long trep = strtoul(*list, &end, 16), day, length;
-    if (!isxdigit((unsigned char)**list) || trep > 0xFF) return false;
-    if (!number_behind('@', &end, 0xFFFFFFFFUL, &day) || !number_behind('=', &end, TACHO_ANSWER_MOST, &length)) return false;
+    unsigned long t = strtoul(*list, &end, 16), d = 0;
+    if (!isxdigit((unsigned char)**list) || t > 0xFF) return false;
+    if (*end == '@') {
+        const char *from = end + 1;
+        d = strtoul(from, &end, 10);
+        if (!isdigit((unsigned char)*from) || d > 0xFFFFFFFFUL) return false;
+    }
     if (*end != 0 && (*end != ',' || end[1] == 0)) return false;
-    *a = (asked){.request = TACHO_REQUEST_TRANSFER, .trep = (uint8_t)trep, .day = (uint32_t)day, .length = length};
+    *trep = (uint8_t)t;
+    *day = (uint32_t)d;
     *list = *end ? end + 1 : end;
     return true;
 }
@@ -174,16 +164,16 @@ static bool dated(uint8_t trep)
 /* Whether the list is one, and the table has all that it asks for; false with a message. */
 static bool check_answers(const char *answers)
 {
-    uint8_t out[TACHO_FRAME_MOST];
-    asked a;
+    uint8_t out[TACHO_FRAME_MOST], trep = 0;
+    uint32_t day = 0;
     do {
         const char *from = answers;
-        if (!next_answer(&answers, &a)) {
+        if (!next_answer(&answers, &trep, &day)) {
             fprintf(stderr, "--answers: '%s' is no list of TREPs\n", from);
             return false;
         }
         tacho_tool_fresh(state, sizeof state);
-        tacho_written w = begin(state, TACHO_REQUEST_TRANSFER, a.trep, a.day, out);
+        tacho_written w = begin(state, TACHO_REQUEST_TRANSFER, trep, day, out);
         if (w.number) {
             fprintf(stderr, "--answers: '%.*s': %s (%u)\n", (int)strcspn(from, ","), from, tacho_number_text(w.number), w.number);
             return false;
@@ -212,14 +202,14 @@ static bool keep(const uint8_t *bytes, size_t len)
 /* Closes the session. A unit that has stopped is silent, so a lost reply cannot be told from a dead line. */
 static void stop(void)
 {
-    if (!run((asked){"stop communication", .request = TACHO_REQUEST_STOP}) || outcome() != TACHO_OUTCOME_DONE)
+    if (!run(TACHO_REQUEST_STOP, 0, 0, "stop communication") || outcome() != TACHO_OUTCOME_DONE)
         fputs("stop communication: not confirmed by the unit\n", stderr);
 }
 
 /* The same as ask, for what a session is open for: a unit that still speaks is told of the end. */
-static bool ask_or_stop(asked a)
+static bool ask_or_stop(uint8_t request, uint8_t trep, uint32_t day, const char *what)
 {
-    if (ask(a)) return true;
+    if (ask(request, trep, day, what)) return true;
     if (outcome() == TACHO_OUTCOME_REFUSED || outcome() == TACHO_OUTCOME_NO_ROOM) stop();
     return false;
 }
@@ -227,23 +217,22 @@ static bool ask_or_stop(asked a)
 static int download(const char *answers)
 {
     unsigned count = 0;
-    if (!ask((asked){"start communication", .request = TACHO_REQUEST_START})
-        || !ask_or_stop((asked){"diagnostic session", .request = TACHO_REQUEST_SESSION})
-        || !ask_or_stop((asked){"request upload", .request = TACHO_REQUEST_UPLOAD}))
+    if (!ask(TACHO_REQUEST_START, 0, 0, "start communication") || !ask_or_stop(TACHO_REQUEST_SESSION, 0, 0, "diagnostic session")
+        || !ask_or_stop(TACHO_REQUEST_UPLOAD, 0, 0, "request upload"))
         return 1;
     while (*answers) {
         char what[64];
-        asked a;
-        next_answer(&answers, &a);
-        snprintf(what, sizeof what, dated(a.trep) ? "%s %02X, second %u (day %u)" : "%s %02X", tacho_type_text(a.trep), a.trep,
-                 (unsigned)a.day, (unsigned)a.day / 86400);
-        a.what = what;
-        if (!ask_or_stop(a)) return 1;
+        uint8_t trep = 0;
+        uint32_t day = 0;
+        next_answer(&answers, &trep, &day);
+        snprintf(what, sizeof what, dated(trep) ? "%s %02X, second %u (day %u)" : "%s %02X", tacho_type_text(trep), trep, (unsigned)day,
+                 (unsigned)day / 86400);
+        if (!ask_or_stop(TACHO_REQUEST_TRANSFER, trep, day, what)) return 1;
         if (!keep(room, held())) return 2;
         printf("  %-46s %8zu bytes\n", what, held());
         count++;
     }
-    if (!ask_or_stop((asked){"transfer exit", .request = TACHO_REQUEST_EXIT})) return 1;
+    if (!ask_or_stop(TACHO_REQUEST_EXIT, 0, 0, "transfer exit")) return 1;
     stop();
     printf("tool: %u answers, %zu bytes; of its frames %u lost, %u repeated, %u spoiled\n", count, stream_len, l.lost, l.repeated, l.spoiled);
     return 0;
@@ -261,7 +250,7 @@ int main(int argc, char **argv)
         {"silence", NULL, &times.silence, 10000, NULL}, {"rest", NULL, &times.rest, 60000, NULL}, {"gap", NULL, &times.gap, 1000, NULL},
         {"tries", NULL, &tries, 1000, NULL},   {"lose", NULL, &lose, 1000, NULL},            {"repeat", NULL, &repeat, 1000, NULL},
         {"spoil", NULL, &spoil, 1000, NULL},   {"seed", NULL, &seed, 0xFFFFFFFFUL, NULL},    {"help", NULL, NULL, 0, &wants_help},
-        {"unit", &unit, NULL, 0, NULL},        {"tool", &tool, NULL, 0, NULL},               {"progress", NULL, NULL, 0, &progress_asked},
+        {"unit", &unit, NULL, 0, NULL},        {"tool", &tool, NULL, 0, NULL},
     };
     if (!options_read(argc, argv, options, sizeof options / sizeof *options, 0)) return 2;
     if (wants_help) return help_said(help);

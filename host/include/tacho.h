@@ -27,9 +27,9 @@ _Static_assert(sizeof(size_t) == 8, "tacho.h is for 64-bit hosts");
 
 /* The version of this interface: the first number grows where a name, a layout or what was given for an input that was taken changes, the
  * second where calls are added or take what was refused before. */
-#define TACHO_VERSION_MAJOR 3
-#define TACHO_VERSION_MINOR 0
-#define TACHO_VERSION "3.0"
+#define TACHO_VERSION_MAJOR 2
+#define TACHO_VERSION_MINOR 2
+#define TACHO_VERSION "2.2"
 
 /* Numbers: why a call is refused. No call gives 5; 13 to 17 say what makes bytes no bench store. */
 enum {
@@ -40,13 +40,13 @@ enum {
     TACHO_BUFFER_SHORT = 4,      /* the lent output or store buffer is too short */
     TACHO_NOT_HELD = 6,          /* the store does not hold the answer */
     TACHO_ALREADY_HELD = 7,      /* the store holds that answer already */
-    TACHO_OVER_BOUND = 8,        /* over 64 answers or the stream's bound, an answer over 16,449,035 bytes, data to split over 16,449,033 */
+    TACHO_OVER_BOUND = 8,        /* over 64 answers, 60,000 stream bytes or 59,998 data bytes */
     TACHO_NOT_ARRAYS = 9,        /* the body is no run of record arrays */
     TACHO_NO_SUCH = 10,          /* no such array, record or sub message */
     TACHO_OUT_OF_TURN = 11,      /* impossible state, or a call out of turn */
     TACHO_NOT_IN_TABLE = 12,     /* the answer or request is not in the table of transfer types, or has a day outside activities */
     TACHO_STORE_SHORT = 13,      /* the buffer is shorter than its header says */
-    TACHO_STORE_BOUNDS = 14,     /* over 64 answers, or a stream over the bound of the store's form */
+    TACHO_STORE_BOUNDS = 14,     /* too many answers, or a stream over its bound */
     TACHO_STORE_ENTRY = 15,      /* an entry's offset or length is wrong */
     TACHO_STORE_ANSWER = 16,     /* an answer's first two bytes are wrong, or its day: no multiple of 86,400, or not 0 outside activities */
     TACHO_STORE_TWICE = 17       /* the same TREP and day twice */
@@ -87,10 +87,9 @@ enum {
     TACHO_UNIT_STATE = 11,
     /* a packed tool: request, outcome, wire code (0 unless refused), TREP, day (4), sendings, expected (2), bytes held (4) */
     TACHO_TOOL_STATE = 15,
-    TACHO_FRAME_MOST = 260,          /* the longest frame: outputs of the unit and the tool need as much */
-    TACHO_ANSWER_MOST = 16449035,    /* the longest answer with its 76 and TREP: 65,534 sub messages; a room of as much is never too short */
-    TACHO_OLD_STORE_MOST = 60516,    /* the longest store of the old form: 64 answers and 60,000 bytes of stream */
-    TACHO_WIDE_STORE_MOST = 33555210 /* the longest store of the wide form: 64 answers and 33,554,432 bytes of stream */
+    TACHO_FRAME_MOST = 260,    /* the longest frame: outputs of the unit and the tool need as much */
+    TACHO_ANSWER_MOST = 60000, /* the longest answer with its 76 and TREP: a room of as much never runs short */
+    TACHO_STORE_MOST = 60516   /* the longest bench store: 64 answers and 60,000 bytes of stream */
 };
 
 /* Places of the fields in a packed unit and a packed tool; of a longer field, its first byte. A program that only reads
@@ -144,35 +143,24 @@ tacho_part tacho_frame_data(const uint8_t *frame, size_t frame_len, bool at_tool
 /* Writes the frame with this data. Refused by 1 (no data, or over 255 bytes), 4. */
 tacho_written tacho_frame_write(const uint8_t *data, size_t data_len, bool to_tool, uint8_t *out, size_t out_len);
 
-/* Splitting: data is an answer without its 76 and TREP, of up to 16,449,033 bytes in at most 65,534 sub messages. Number 65,535 is that of
- * none: its acknowledge code would be FFFF, which is the stop. */
+/* Splitting: data is an answer without its 76 and TREP. */
 
-/* How many frames the answer takes. Refused by 8 (over 16,449,033 bytes). */
+/* How many frames the answer takes. Refused by 8. */
 tacho_counted tacho_sub_messages(size_t data_len);
 
-/* Writes sub message `number`, from 1, as a frame to the tool; an unsplit answer is its number 1. Refused by 8, 10 (0, past the
- * last; 65,535 of every answer), 4. */
+/* Writes sub message `number`, from 1, as a frame to the tool; an unsplit answer is its number 1. Refused by 8, 10, 4. */
 tacho_written tacho_sub_message(const uint8_t *data, size_t data_len, uint8_t trep, uint16_t number, uint8_t *out, size_t out_len);
 
-/* The bench store: an answer begins 76 and its TREP. A buffer is read in one of two forms, by its first two bytes:
- *                                    old form                   wide form
- *   read of                          every other buffer         a buffer that begins FF FF
- *   count n, stream length t         2 bytes each, at 0 and 2   4 bytes each, at 2 and 6
- *   n entries: day, offset, length   4, 2 and 2 bytes           4 bytes each
- *   a store, its stream last         4 + 8n + t bytes           10 + 12n + t bytes
- *   at most: answers, stream         64, 60,000 bytes           64, 33,554,432 bytes
- *   one answer                       2 to 60,000 bytes          2 to 16,449,035 bytes
- *   an empty store                   00 00 00 00                FF FF and eight 00
- * Every call takes both, and none changes the form. A host makes an empty store by writing those four or ten bytes.
+/* The bench store: an answer begins 76 and its TREP. A buffer whose first four bytes are zero is an empty store.
  * Activities (TREP 02, 22, 32) are of a day, which a call takes as any second of the day, in seconds since 1970: 86,399 is the first day's
  * last second, 86,400 is of the next day. The store keeps the day's first second, a multiple of 86,400. All other answers have day 0. */
 
 /* What makes the buffer no store, and where: number 0 for an unbroken store at its front. The checks run in the order of the numbers, each
  * over all entries, from the first, before the next. Entries and answers count from zero. The position is
- *   13  the header's count of answers; 0 for a buffer too short for its header: under 4 bytes, under 10 where it begins FF FF
+ *   13  the header's count of answers; 0 for a buffer too short for its header
  *   14  the header's count of answers
- *   15  the first entry whose offset is not the sum of the lengths before it, whose length is under 2 or over 16,449,035, or whose end is
- *       past the stream; the count of answers where they end before the stream does
+ *   15  the first entry whose offset is not the sum of the lengths before it, whose length is under 2, or whose end is past the stream;
+ *       the count of answers where they end before the stream does
  *   16  the first answer that does not begin 76 and a listed TREP, or whose day is no multiple of 86,400, or not 0 outside activities
  *   17  the first answer with the TREP and day of an earlier one */
 tacho_fault tacho_store_fault(const uint8_t *store, size_t store_len);
@@ -194,8 +182,7 @@ tacho_counted tacho_store_count(const uint8_t *store, size_t store_len);
 tacho_held tacho_store_answer(const uint8_t *store, size_t store_len, size_t k);
 
 /* Puts the answer last; store is the whole buffer, len the store's new length, bytes behind it stay. day: any second of the day for
- * activities, whose first second the store keeps; else 0. Refused by 13 to 17, 12, 7 (held under any second of the day), 8 (64 answers
- * held, an answer over TACHO_ANSWER_MOST, or the stream over the form's bound with it), 4. */
+ * activities, whose first second the store keeps; else 0. Refused by 13 to 17, 12, 7 (held under any second of the day), 8, 4. */
 tacho_written tacho_store_append(uint8_t *store, size_t store_len, const uint8_t *answer, size_t answer_len, uint32_t day);
 
 /* Record arrays (generation 2): body is an answer without its 76 and TREP; arrays and records count from zero. */
@@ -209,14 +196,13 @@ tacho_array tacho_array_at(const uint8_t *body, size_t body_len, size_t array);
 /* One record, as part of the body. Refused by 9, 10. */
 tacho_part tacho_record_at(const uint8_t *body, size_t body_len, size_t array, size_t record);
 
-/* The unit. state: exactly TACHO_UNIT_STATE bytes for a step; other lengths and bytes that are no state are 11. Each step may be given
- * another store, of either form. */
+/* The unit. state: exactly TACHO_UNIT_STATE bytes for a step; other lengths and bytes that are no state are 11. */
 
 /* Writes the state of a fresh unit: closed, rate 1. Refused by 11 (kind), 4. Changes only the first TACHO_UNIT_STATE bytes. */
 uint8_t tacho_unit_fresh(uint8_t kind, uint8_t *state, size_t state_len);
 
-/* The unit hears a frame: changes the state, and writes the reply, len 0 for silence. Acknowledge code FFFF is the stop, behind sub message
- * 65,534 too. Refused by 13 to 17 (the store), 11, 4 (reply under 260), 1, 2, 3. */
+/* The unit hears a frame: changes the state, and writes the reply, len 0 for silence. Refused by 13 to 17 (the store), 11, 4 (reply under
+ * 260), 1, 2, 3. */
 tacho_written tacho_unit_step(uint8_t *state, size_t state_len, const uint8_t *store, size_t store_len, const uint8_t *frame,
                               size_t frame_len, uint8_t *reply, size_t reply_len);
 
@@ -235,9 +221,8 @@ uint8_t tacho_tool_fresh(uint8_t *state, size_t state_len);
 tacho_written tacho_tool_begin(uint8_t *state, size_t state_len, uint8_t request, uint8_t trep, uint32_t day, uint8_t *out,
                                size_t out_len);
 
-/* A frame arrived, good or not: changes the state, the room (the bytes of the answer, behind those held) and the output. Bytes that would
- * pass the room or TACHO_ANSWER_MOST end the request with TACHO_OUTCOME_NO_ROOM; where they are a sub message's, code FFFF is sent, which
- * no other frame of the tool has. Refused by 11 (not waiting, or an impossible state), 4 (out under 260). */
+/* A frame arrived, good or not: changes the state, the room (the bytes of the answer, behind those held) and the output.
+ * Refused by 11 (not waiting, or an impossible state), 4 (out under 260). */
 tacho_written tacho_tool_arrived(uint8_t *state, size_t state_len, const uint8_t *frame, size_t frame_len, uint8_t *room,
                                  size_t room_len, uint8_t *out, size_t out_len);
 

@@ -11,7 +11,7 @@ const char *tacho_number_text(uint8_t number)
     case TACHO_BUFFER_SHORT: return "a lent buffer is too short";
     case TACHO_NOT_HELD: return "the answer is not held";
     case TACHO_ALREADY_HELD: return "the answer is held already";
-    case TACHO_OVER_BOUND: return "over 64 answers, or over the most bytes of a stream, an answer or data to split";
+    case TACHO_OVER_BOUND: return "over 64 answers or 60,000 bytes";
     case TACHO_NOT_ARRAYS: return "the body is no run of record arrays";
     case TACHO_NO_SUCH: return "no such array, record or sub message";
     case TACHO_OUT_OF_TURN: return "impossible state, or a call out of turn";

@@ -6,7 +6,7 @@
  *   addresses
  */
 #include "readdressed.h"
-#include "wanted.h"
+#include "support.h"
 
 #include <stdio.h>
 #include <string.h>
@@ -35,12 +35,39 @@ typedef struct {
 static const side SIDES[] = {SIDE("the proved calls", tacho), SIDE("the reference", ref)};
 static const side *calls;
 
-enum { OVER_BOUND = REF_DATA_MOST + 1, ROOM_LEN = 300 }; /* more data bytes than can be split; a room for one sub message */
+/* Lent buffers, each with what it has to have after the call; and how many calls were judged. */
+enum { STATE, STORE, FRAME, ROOM, OUT, LENT };
+enum { OVER_BOUND = 59999, ROOM_LEN = 300 }; /* more data bytes than can be split; a room for one sub message */
+static guard lent[LENT];
+static uint8_t wanted[LENT][OVER_BOUND];
+static unsigned long judged;
 
-/* A call gave this number and this length, and left what is wanted. */
-static void gave(const char *what, unsigned number, size_t len, unsigned wanted_number, size_t wanted_len)
+static uint8_t *lend(int i, const uint8_t *bytes, size_t len)
 {
-    want(calls->name, what, number, len, wanted_number, wanted_len);
+    uint8_t *at = guard_lend(&lent[i], bytes, len);
+    if (len) memcpy(wanted[i], at, len);
+    return at;
+}
+
+static void lend_nothing(void)
+{
+    for (int i = 0; i < LENT; i++) lend(i, NULL, 0);
+}
+
+/* A call gave this number and this length, and every lent buffer has what it has to have. */
+static void want(const char *what, unsigned number, size_t len, unsigned wanted_number, size_t wanted_len)
+{
+    static const char *const buffers[LENT] = {"state", "store", "frame or data", "room", "output"};
+    judged++;
+    if (number != wanted_number || len != wanted_len)
+        fail("%s, %s: gave number %u and %zu, wanted %u and %zu", calls->name, what, number, len, wanted_number, wanted_len);
+    for (int i = 0; i < LENT; i++) {
+        guard_check(&lent[i], what);
+        if (memcmp(lent[i].at, wanted[i], lent[i].len) == 0) continue;
+        hex("is", lent[i].at, lent[i].len);
+        hex("wanted", wanted[i], lent[i].len);
+        fail("%s, %s: the %s is not as wanted", calls->name, what, buffers[i]);
+    }
 }
 
 /* The calls on the lent buffers. */
@@ -100,7 +127,7 @@ static void sheet_starts(void)
         memcpy(wanted[STATE], begun, sizeof begun);
         memcpy(wanted[OUT], known[k].start, sizeof known[k].start);
         tacho_written w = begin(known[k].at, TACHO_REQUEST_START, 0);
-        gave("a start begun", w.number, w.len, 0, sizeof known[k].start);
+        want("a start begun", w.number, w.len, 0, sizeof known[k].start);
         lend(STATE, CLOSED, sizeof CLOSED);
         lend(STORE, EMPTY_STORE, sizeof EMPTY_STORE);
         lend(FRAME, known[k].start, sizeof known[k].start);
@@ -108,7 +135,7 @@ static void sheet_starts(void)
         memcpy(wanted[STATE], STARTED, sizeof STARTED);
         memcpy(wanted[OUT], known[k].reply, sizeof known[k].reply);
         w = step(known[k].at);
-        gave("a start heard", w.number, w.len, 0, sizeof known[k].reply);
+        want("a start heard", w.number, w.len, 0, sizeof known[k].reply);
     }
 }
 
@@ -128,7 +155,7 @@ static void sheet_refused_starts(void)
         lend(FRAME, known[k].start, sizeof known[k].start);
         lend(OUT, NULL, TACHO_FRAME_MOST);
         tacho_written w = step(REMOTE);
-        gave("another start heard", w.number, w.len, known[k].number, 0);
+        want("another start heard", w.number, w.len, known[k].number, 0);
     }
 }
 
@@ -154,7 +181,7 @@ static void sheet_code_2(void)
     memcpy(wanted[ROOM] + 2, first + 8, 251);
     memcpy(wanted[OUT], code_2, sizeof code_2);
     tacho_written w = arrived(REMOTE);
-    gave("a sub message at EE and FB", w.number, w.len, 0, sizeof code_2);
+    want("a sub message at EE and FB", w.number, w.len, 0, sizeof code_2);
 }
 
 /* A tool begun at the lab's addresses whose answer arrives at a call given EE and FB: a failed wait, and the request is sent again with the
@@ -171,17 +198,17 @@ static void sheet_other_call(void)
     memcpy(wanted[STATE], BEGUN, sizeof BEGUN);
     memcpy(wanted[OUT], asked, sizeof asked);
     tacho_written w = begin(LAB, TACHO_REQUEST_TRANSFER, 0x24);
-    gave("a transfer begun at the lab's addresses", w.number, w.len, 0, sizeof asked);
+    want("a transfer begun at the lab's addresses", w.number, w.len, 0, sizeof asked);
     lend(FRAME, answer, sizeof answer);
     lend(ROOM, NULL, ROOM_LEN);
     memcpy(wanted[STATE], SENT_AGAIN, sizeof SENT_AGAIN);
     memcpy(wanted[OUT], again, sizeof again);
     w = arrived(REMOTE);
-    gave("its answer at a call given EE and FB", w.number, w.len, 0, sizeof again);
+    want("its answer at a call given EE and FB", w.number, w.len, 0, sizeof again);
     memcpy(wanted[STATE], done, sizeof done);
     memcpy(wanted[ROOM], answer + 4, 4);
     w = arrived(LAB);
-    gave("its answer at a call given the lab's", w.number, w.len, 0, 0);
+    want("its answer at a call given the lab's", w.number, w.len, 0, 0);
 }
 
 /* Every call of an end at 55 and 55, on what is lent: 2, and nothing changes. */
@@ -190,16 +217,16 @@ static void ends_refuse(void)
     static const addresses both = {0x55, 0x55};
     static const uint8_t requests[] = {TACHO_REQUEST_START, TACHO_REQUEST_TRANSFER, 6, 9};
     tacho_written w = step(both);
-    gave("a step at 55 and 55", w.number, w.len, 2, 0);
+    want("a step at 55 and 55", w.number, w.len, 2, 0);
     for (size_t k = 0; k < sizeof requests; k++)
         for (unsigned trep = 0x05; trep < 0x07; trep++) {
             w = begin(both, requests[k], (uint8_t)trep);
-            gave("a begin at 55 and 55", w.number, w.len, 2, 0);
+            want("a begin at 55 and 55", w.number, w.len, 2, 0);
         }
     w = arrived(both);
-    gave("an arrival at 55 and 55", w.number, w.len, 2, 0);
+    want("an arrival at 55 and 55", w.number, w.len, 2, 0);
     w = wait_ended(both);
-    gave("a wait's end at 55 and 55", w.number, w.len, 2, 0);
+    want("a wait's end at 55 and 55", w.number, w.len, 2, 0);
 }
 
 /* Every call of a frame at 55 and 55, on what is lent: 2, and nothing changes. */
@@ -207,14 +234,14 @@ static void frames_refuse(bool to_tool)
 {
     static const addresses both = {0x55, 0x55};
     uint8_t number = calls->frame_check(both.unit, both.tool, lent[FRAME].at, lent[FRAME].len, to_tool);
-    gave("a frame judged at 55 and 55", number, 0, 2, 0);
+    want("a frame judged at 55 and 55", number, 0, 2, 0);
     tacho_part p = calls->frame_data(both.unit, both.tool, lent[FRAME].at, lent[FRAME].len, to_tool);
-    gave("a frame's data at 55 and 55", p.number, p.start + p.len, 2, 0);
+    want("a frame's data at 55 and 55", p.number, p.start + p.len, 2, 0);
     tacho_written w = write_frame(both, to_tool);
-    gave("a frame written at 55 and 55", w.number, w.len, 2, 0);
+    want("a frame written at 55 and 55", w.number, w.len, 2, 0);
     for (uint16_t k = 0; k < 3; k++) {
         w = calls->sub_message(both.unit, both.tool, lent[FRAME].at, lent[FRAME].len, 0x24, k, lent[OUT].at, lent[OUT].len);
-        gave("a sub message at 55 and 55", w.number, w.len, 2, 0);
+        want("a sub message at 55 and 55", w.number, w.len, 2, 0);
     }
 }
 
@@ -270,7 +297,7 @@ static void judged_everywhere(addresses a, const uint8_t *frame, size_t len, boo
             bool good = !equal && (at_tool == to_tool) == !swapped && !(is_start && at_tool);
             uint8_t number = calls->frame_check(unit, tool, f, len, at_tool);
             tacho_part p = calls->frame_data(unit, tool, f, len, at_tool);
-            gave("a frame's data", p.number, p.start, good ? 0 : 2, !good ? 0 : is_start ? 3 : 4);
+            want("a frame's data", p.number, p.start, good ? 0 : 2, !good ? 0 : is_start ? 3 : 4);
             if (number != p.number) fail("%s: a frame is judged %u, its data is refused by %u", calls->name, number, p.number);
             if (p.len != (good ? 1 : 0)) fail("%s: %zu data bytes of a frame with one", calls->name, p.len);
             judged++; /* the check, beside the data */
@@ -291,22 +318,22 @@ static void at_both(addresses a)
         lend(OUT, NULL, sizeof frames[to_tool]);
         if (!equal) memcpy(wanted[OUT], frames[to_tool], sizeof frames[to_tool]);
         tacho_written w = write_frame(a, to_tool);
-        gave("a frame written", w.number, w.len, equal ? 2 : 0, equal ? 0 : sizeof frames[to_tool]);
+        want("a frame written", w.number, w.len, equal ? 2 : 0, equal ? 0 : sizeof frames[to_tool]);
         judged_everywhere(a, frames[to_tool], sizeof frames[to_tool], to_tool);
         frames[to_tool][5]++;
         const uint8_t *f = lend(FRAME, frames[to_tool], sizeof frames[to_tool]);
-        gave("a wrong checksum", calls->frame_check(a.unit, a.tool, f, sizeof frames[to_tool], to_tool), 0, equal ? 2 : 3, 0);
+        want("a wrong checksum", calls->frame_check(a.unit, a.tool, f, sizeof frames[to_tool], to_tool), 0, equal ? 2 : 3, 0);
     }
     judged_everywhere(a, start, sizeof start, false);
     start[4]++;
     const uint8_t *f = lend(FRAME, start, sizeof start);
-    gave("a start's wrong checksum", calls->frame_check(a.unit, a.tool, f, sizeof start, false), 0, equal ? 2 : 3, 0);
+    want("a start's wrong checksum", calls->frame_check(a.unit, a.tool, f, sizeof start, false), 0, equal ? 2 : 3, 0);
 }
 
 int main(void)
 {
     random_seed(1);
-    make_lent(OVER_BOUND);
+    for (int i = 0; i < LENT; i++) guard_make(&lent[i], OVER_BOUND);
     for (size_t k = 0; k < sizeof SIDES / sizeof *SIDES; k++) {
         calls = &SIDES[k];
         sheet_starts();

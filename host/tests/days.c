@@ -1,8 +1,7 @@
 /*
  * A day is any second in it (document 02, Req 03): the examples of the request's sheet, then activities of each kind, appended, looked up,
- * asked for, acknowledged and begun by seconds at the edges of days, and names outside activities, which have no days, in stores of both
- * forms (Req 08). What is wanted is written down here byte for byte; the first second of a day stands in a table, or the second is made
- * from it. The proved calls and the
+ * asked for, acknowledged and begun by seconds at the edges of days, and names outside activities, which have no days. What is wanted is
+ * written down here byte for byte; the first second of a day stands in a table, or the second is made from it. The proved calls and the
  * reference are judged alike. A refused call changes nothing, and no call what it only reads or a byte outside its buffers.
  *
  *   days [SEED]
@@ -40,7 +39,6 @@ typedef struct {
     }
 static const side SIDES[] = {SIDE("the proved calls", tacho), SIDE("the reference", ref)};
 static const side *calls;
-static const ref_form *form; /* of the stores, but for the sheet's */
 
 /* A second, and the first second of its day. */
 typedef struct {
@@ -143,7 +141,7 @@ static void write_answer(uint8_t *out, kept a)
 /* Where answer i begins in the store; that behind the last one is the store's length. */
 static size_t start_of(const contents *s, size_t i)
 {
-    size_t start = ref_entry_at(form, s->count);
+    size_t start = entry_at(s->count);
     for (size_t k = 0; k < i; k++) start += s->answers[k].len;
     return start;
 }
@@ -151,17 +149,13 @@ static size_t start_of(const contents *s, size_t i)
 /* The store with these answers, field by field: its length. */
 static size_t write_store(uint8_t *out, const contents *s)
 {
-    size_t stream = ref_entry_at(form, s->count), whole_len = start_of(s, s->count);
-    ref_store_empty(form, out);
-    ref_put_field(form, out + form->mark, s->count);
-    ref_put_field(form, out + form->stream_len, whole_len - stream);
+    size_t stream = entry_at(s->count), whole_len = start_of(s, s->count);
+    memcpy(out, (const uint8_t[]){REF_TWO_BYTES(s->count), REF_TWO_BYTES(whole_len - stream)}, REF_STORE_HEADER);
     for (size_t i = 0; i < s->count; i++) {
         kept a = s->answers[i];
-        size_t at = start_of(s, i);
-        uint8_t *entry = out + ref_entry_at(form, i);
-        put_four(entry + REF_ENTRY_AT_DAY, a.day);
-        ref_put_field(form, entry + REF_ENTRY_AT_OFFSET, at - stream);
-        ref_put_field(form, entry + form->len, a.len);
+        size_t at = start_of(s, i), offset = at - stream;
+        const uint8_t entry[] = {REF_FOUR_BYTES(a.day), REF_TWO_BYTES(offset), REF_TWO_BYTES(a.len)};
+        memcpy(out + entry_at(i), entry, sizeof entry);
         write_answer(out + at, a);
     }
     return whole_len;
@@ -664,20 +658,15 @@ static void sheet_entry(void)
     want_result(f.number, f.position, 16, 0);
 }
 
-static void sheet(void)
+static void judge(const side *s)
 {
+    calls = s;
     sheet_appends();
     sheet_lookups();
     sheet_requests();
     sheet_sub_messages();
     sheet_begin();
     sheet_entry();
-}
-
-static void judge(const side *s, const ref_form *of)
-{
-    calls = s;
-    form = of;
     for (uint8_t kind = 0; kind < sizeof DATED; kind++)
         for (size_t k = 0; k < INSTANTS; k++) {
             activities(kind, instants[k]);
@@ -686,6 +675,7 @@ static void judge(const side *s, const ref_form *of)
     many_days();
     for (unsigned trep = 0; trep < 256; trep++)
         if (!memchr(DATED, (int)trep, sizeof DATED)) without_days((uint8_t)trep);
+    fixed_requests();
     other_checks();
 }
 
@@ -697,12 +687,7 @@ int main(int argc, char **argv)
     fflush(stdout); /* it stays readable where a sanitizer or a guard page ends the test */
     for (int i = 0; i < LENT; i++) guard_make(&lent[i], STORE_ROOM);
     make_instants();
-    for (size_t k = 0; k < sizeof SIDES / sizeof *SIDES; k++) {
-        judge(&SIDES[k], &REF_OLD);
-        judge(&SIDES[k], &REF_WIDE);
-        sheet();
-        fixed_requests();
-    }
-    printf("days: %lu calls gave what was wanted, in the sheet's examples and by %d seconds in both forms\n", judged, INSTANTS);
+    for (size_t k = 0; k < sizeof SIDES / sizeof *SIDES; k++) judge(&SIDES[k]);
+    printf("days: %lu calls gave what was wanted, in the sheet's examples and by %d seconds\n", judged, INSTANTS);
     return 0;
 }

@@ -1,8 +1,8 @@
 /*
- * Broken stores of both forms against the faults that were put into them (document 02, Req 06 and Req 08): each kind at every entry, alone
- * and in pairs, and the examples of the requests' sheets. tacho_store_fault gives the number and the position of the fault,
- * tacho_store_check the number; for a good store both give 0. The reference has to give the same, but what is right is not taken from it.
- * The store stays as it is, and no byte outside it is touched.
+ * Broken stores against the faults that were put into them (document 02, Req 06): each kind at every entry, alone and in pairs, and the
+ * examples of the request's sheet. tacho_store_fault gives the number and the position of the fault, tacho_store_check the number; for a
+ * good store both give 0. The reference has to give the same, but what is right is not taken from it. The store stays as it is, and no
+ * byte outside it is touched.
  *
  *   faults
  */
@@ -12,13 +12,10 @@
 #include <stdio.h>
 #include <string.h>
 
-/* The most answers and the longest stream that a header of the test speaks of; the longest buffer, and bytes behind it; a good store, and
- * its copy with faults, both of the form that is tried. */
-enum { COUNTED_MOST = 65536, STREAM_MOST = 33554433, BEHIND = 3 };
-enum { SPOKEN_OF = 10 + 12 * COUNTED_MOST + STREAM_MOST };
+/* The longest buffer that a header can speak of, and bytes behind it; a good store, and its copy with faults. */
+enum { SPOKEN_OF = REF_STORE_HEADER + REF_STORE_ENTRY * 0xFFFF + 0xFFFF, BEHIND = 3 };
 static guard lent;
-static uint8_t good[TACHO_WIDE_STORE_MOST], spoilt[SPOKEN_OF + BEHIND];
-static const ref_form *form;
+static uint8_t good[TACHO_STORE_MOST], spoilt[SPOKEN_OF + BEHIND];
 
 /* Stores judged, by the number wanted of them, and faults put in, by their kind. */
 static unsigned long judged[18], put_in[FAULTS];
@@ -51,33 +48,22 @@ static bool fault_is(const uint8_t *s, size_t len, tacho_fault wanted)
     return false;
 }
 
-/* An example: bytes, and so many of one value behind them. */
-typedef struct {
-    const char *bytes;
-    size_t len, behind;
-    uint8_t value;
-    tacho_fault fault;
-} example;
-
-static void judge_examples(const char *of, const example *known, size_t count)
-{
-    for (size_t k = 0; k < count; k++) {
-        memcpy(spoilt, known[k].bytes, known[k].len);
-        memset(spoilt + known[k].len, known[k].value, known[k].behind);
-        if (!fault_is(spoilt, known[k].len + known[k].behind, known[k].fault)) fail("the fault of example %zu of %s", k, of);
-    }
-}
-
-/* The examples of Req 06's sheet, and the largest count of an old store. */
+/* The examples of the request's sheet: bytes, and so many of one value behind them. */
 static void known_faults(void)
 {
-    static const example known[] = {
+    static const struct {
+        const char *bytes;
+        size_t len, behind;
+        uint8_t value;
+        tacho_fault fault;
+    } known[] = {
         {"", 0, 0, 0, {13, 0}},
         {"\x00\x01\x00", 3, 0, 0, {13, 0}},
         {"\x00\x01\x00\x04\x00\x00\x00\x00\x00\x00\x00\x04\x76\x00\x02", 15, 0, 0, {13, 1}},
         {"\x00\x01\x00\x04\x00\x00\x00\x00\x00\x00\x00\x04\x76\x00\x02\x02", 16, 0, 0, {0, 0}},
-        {"\xFF\xFE", 2, 524273, 0, {13, 65534}},
-        {"\xFF\xFE", 2, 524274, 0, {14, 65534}},
+        {"", 0, 4, 0xFF, {13, 65535}},
+        {"", 0, 589818, 0xFF, {13, 65535}},
+        {"", 0, 589819, 0xFF, {14, 65535}},
         {"\x00\x41\x00\x00", 4, 520, 0, {14, 65}},
         {"\x00\x00\x00\x00", 4, 0, 0, {0, 0}},
         {"\x00\x00\x00\x01\x76", 5, 0, 0, {15, 0}},
@@ -87,28 +73,36 @@ static void known_faults(void)
         {"\x00\x04\x00\x08\x00\x00\x00\x00\x00\x00\x00\x02\x00\x00\x00\x00\x00\x02\x00\x02\x00\x00\x00\x00\x00\x04\x00\x02"
          "\x00\x00\x00\x00\x00\x06\x00\x02\x76\x01\x76\x03\x76\x03\x76\x01", 44, 0, 0, {17, 2}},
     };
-    judge_examples("Req 06", known, sizeof known / sizeof *known);
+    for (size_t k = 0; k < sizeof known / sizeof *known; k++) {
+        memcpy(spoilt, known[k].bytes, known[k].len);
+        memset(spoilt + known[k].len, known[k].value, known[k].behind);
+        if (!fault_is(spoilt, known[k].len + known[k].behind, known[k].fault)) fail("the fault of example %zu", k);
+    }
 }
 
-/* Those of Req 08's sheet, and counts and stream lengths of wide stores. */
-static void known_wide_faults(void)
+/* A store of one answer without data: every first byte; every TREP, at days around the multiples of 86,400. */
+static void judged_answers(void)
 {
-    static const example known[] = {
-        {"", 0, 1, 0xFF, {13, 0}},
-        {"", 0, 4, 0xFF, {13, 0}},
-        {"\xFF\xFF", 2, 7, 0, {13, 0}},
-        {"\xFF\xFF", 2, 8, 0, {0, 0}},
-        {"\xFF\xFF\x00\x00\x00\x01\x00\x00\x00\x00", 10, 0, 0, {13, 1}},
-        {"", 0, 589819, 0xFF, {13, 4294967295}},
-        /* sums that come to 6, 18 and 0 in 32 bits */
-        {"\xFF\xFF\x55\x55\x55\x55\x00\x00\x00\x00", 10, 0, 0, {13, 1431655765}},
-        {"\xFF\xFF\x15\x55\x55\x56\x00\x00\x00\x00", 10, 8, 0, {13, 357913942}},
-        {"\xFF\xFF\x00\x00\x00\x01\xFF\xFF\xFF\xEA", 10, 12, 0, {13, 1}},
-        {"\xFF\xFF\x00\x00\x00\x41\x00\x00\x00\x00", 10, 779, 0, {13, 65}},
-        {"\xFF\xFF\x00\x00\x00\x41\x00\x00\x00\x00", 10, 780, 0, {14, 65}},
-        {"\xFF\xFF\x00\x00\x00\x00\x00\x00\x00\x01", 10, 1, 0, {15, 0}},
-    };
-    judge_examples("Req 08", known, sizeof known / sizeof *known);
+    static const struct {
+        uint32_t day;
+        bool multiple;
+    } days[] = {{0, true},      {1, false},     {86399, false},     {86400, true},
+                {86401, false}, {172800, true}, {4294944000, true}, {4294967295, false}};
+    uint8_t s[] = {0, 1, 0, 2, 0, 0, 0, 0, 0, 0, 0, 2, 0x76, 0x00};
+    uint8_t *day = s + REF_STORE_HEADER + REF_ENTRY_AT_DAY, *answer = s + entry_at(1);
+    for (unsigned b = 0; b < 256; b++) {
+        answer[0] = (uint8_t)b;
+        if (!fault_is(s, sizeof s, (tacho_fault){b == 0x76 ? 0 : 16, 0})) fail("an answer's first byte %02X", b);
+    }
+    answer[0] = 0x76;
+    for (unsigned trep = 0; trep < 256; trep++)
+        for (size_t k = 0; k < sizeof days / sizeof *days; k++) {
+            bool dated = memchr(DATED, (int)trep, sizeof DATED);
+            bool right = memchr(TREPS, (int)trep, sizeof TREPS) && (dated ? days[k].multiple : days[k].day == 0);
+            answer[1] = (uint8_t)trep;
+            put_four(day, days[k].day);
+            if (!fault_is(s, sizeof s, (tacho_fault){right ? 0 : 16, 0})) fail("TREP %02X at second %u", trep, (unsigned)days[k].day);
+        }
 }
 
 /* Names for 64 answers: of any listed TREP, of one TREP, or with TREPs that rise while the days fall; and the order in which they come. */
@@ -134,8 +128,6 @@ static size_t rank_of(order o, size_t i)
     return o == RISING ? i : 63 - i;
 }
 
-static uint8_t longest[REF_ANSWER_MOST] = {0x76, 0x32};
-
 static void put_answer(const uint8_t *answer, size_t len, uint32_t day)
 {
     uint8_t number = ref_store_append(good, sizeof good, answer, len, day).number;
@@ -145,38 +137,12 @@ static void put_answer(const uint8_t *answer, size_t len, uint32_t day)
 /* A good store of so many answers, of two bytes or a few more. */
 static void make_good(size_t answers, naming names, order o)
 {
-    ref_store_empty(form, good);
+    memset(good, 0, REF_STORE_HEADER);
     for (size_t i = 0; i < answers; i++) {
         uint8_t answer[] = {0x76, trep_of(names, rank_of(o, i)), 0x76, 0x00};
         put_answer(answer, 2 + i % 3, day_of(names, rank_of(o, i)));
     }
     if (!fault_is(good, whole(good), (tacho_fault){0, 0})) fail("a good store of %zu answers", answers);
-}
-
-/* A store of one answer without data: every first byte; every TREP, at days around the multiples of 86,400. */
-static void judged_answers(void)
-{
-    static const struct {
-        uint32_t day;
-        bool multiple;
-    } days[] = {{0, true},      {1, false},     {86399, false},     {86400, true},
-                {86401, false}, {172800, true}, {4294944000, true}, {4294967295, false}};
-    uint8_t *s = good, *day = s + form->header + REF_ENTRY_AT_DAY, *answer = s + ref_entry_at(form, 1);
-    make_good(1, ANY_TREP, RISING);
-    size_t len = whole(s);
-    for (unsigned b = 0; b < 256; b++) {
-        answer[0] = (uint8_t)b;
-        if (!fault_is(s, len, (tacho_fault){b == 0x76 ? 0 : 16, 0})) fail("an answer's first byte %02X", b);
-    }
-    answer[0] = 0x76;
-    for (unsigned trep = 0; trep < 256; trep++)
-        for (size_t k = 0; k < sizeof days / sizeof *days; k++) {
-            bool dated = memchr(DATED, (int)trep, sizeof DATED);
-            bool right = memchr(TREPS, (int)trep, sizeof TREPS) && (dated ? days[k].multiple : days[k].day == 0);
-            answer[1] = (uint8_t)trep;
-            put_four(day, days[k].day);
-            if (!fault_is(s, len, (tacho_fault){right ? 0 : 16, 0})) fail("TREP %02X at second %u", trep, (unsigned)days[k].day);
-        }
 }
 
 /* What a fault is called in the good store; `counted` is what the header with the faults counts. */
@@ -226,8 +192,7 @@ static void list_fault(fault f)
 
 static void list_faults(void)
 {
-    const size_t streams[] = {form->stream_most + 1, form == &REF_OLD ? 65535 : STREAM_MOST};
-    const size_t counts[] = {65, 66, 256, form == &REF_OLD ? 65534 : COUNTED_MOST}; /* a count of FF FF makes the store a wide one */
+    static const size_t streams[] = {60001, 65535}, counts[] = {65, 66, 256, 65535};
     faults_listed = 0;
     for (fault_kind k = 0; k < FAULTS; k++)
         switch (k) {
@@ -251,7 +216,7 @@ static void every_fault(size_t answers)
     list_faults();
     for (size_t k = 0; k < faults_listed; k++) least_is_given(listed[k], listed[k]);
     for (size_t len = 0; len < whole(good); len++)
-        if (!fault_is(good, len, (tacho_fault){13, len < form->header ? 0 : answers}))
+        if (!fault_is(good, len, (tacho_fault){13, len < REF_STORE_HEADER ? 0 : answers}))
             fail("a store of %zu answers cut to %zu bytes", answers, len);
 }
 
@@ -282,35 +247,17 @@ static void every_repeat(void)
         }
 }
 
-/* 64 answers and the longest stream are the longest store; a byte more of stream is 14, not 15. */
+/* 64 answers and a stream of 60,000 bytes are a store; a byte more of stream is 14, not 15. */
 static void full_store(void)
 {
-    make_good(form == &REF_OLD ? 63 : 61, ANY_TREP, RISING);
-    while (count_in(good) < 64) {
-        size_t left = form->stream_most - stream_len_in(good);
-        put_answer(longest, left < sizeof longest ? left : sizeof longest, 86400 * (uint32_t)count_in(good));
-    }
-    size_t len = whole(good);
-    if (len != (form == &REF_OLD ? TACHO_OLD_STORE_MOST : TACHO_WIDE_STORE_MOST)) fail("a full store of %zu bytes", len);
-    if (!fault_is(good, len, (tacho_fault){0, 0})) fail("a full store");
-    if (!fault_is(good, len - 1, (tacho_fault){13, 64})) fail("a full store without its last byte");
-    memcpy(spoilt, good, len);
+    static uint8_t last[TACHO_ANSWER_MOST] = {0x76, 0x32};
+    make_good(63, ANY_TREP, RISING);
+    put_answer(last, TACHO_ANSWER_MOST - two_at(good + REF_STORE_AT_STREAM_LEN), 86400 * 63);
+    if (!fault_is(good, sizeof good, (tacho_fault){0, 0})) fail("a full store");
+    if (!fault_is(good, sizeof good - 1, (tacho_fault){13, 64})) fail("a full store without its last byte");
+    memcpy(spoilt, good, sizeof good);
     spoil_store(good, spoilt, (fault){STREAM_LONGER, 0, 0});
-    if (!fault_is(spoilt, len + 1, (tacho_fault){14, 64})) fail("a full store and a byte of stream more");
-}
-
-/* The longest answer, behind another, is a store; with a byte more its entry is wrong, though the stream has that byte. */
-static void longest_answer(void)
-{
-    if (form == &REF_OLD) return; /* there the stream is too short */
-    make_good(1, ANY_TREP, RISING);
-    put_answer(longest, sizeof longest, 86400);
-    size_t len = whole(good);
-    if (!fault_is(good, len, (tacho_fault){0, 0})) fail("the longest answer");
-    memcpy(spoilt, good, len);
-    spoil_store(good, spoilt, (fault){STREAM_LONGER, 0, 0});
-    spoil_store(good, spoilt, (fault){LENGTH_OVER, 1, 0});
-    if (!fault_is(spoilt, len + 1, (tacho_fault){15, 1})) fail("the longest answer and a byte more");
+    if (!fault_is(spoilt, sizeof good + 1, (tacho_fault){14, 64})) fail("a full store and a byte of stream more");
 }
 
 /* A number that no store had, or a kind of fault that was put into none, was not judged. Gives the count of all stores. */
@@ -328,25 +275,16 @@ static unsigned long all_judged(void)
     return stores;
 }
 
-static void judge(const ref_form *of)
+int main(void)
 {
     static const size_t answers[] = {1, 2, 3, 5, 64};
-    form = of;
+    guard_make(&lent, SPOKEN_OF + BEHIND);
+    known_faults();
     judged_answers();
     for (size_t k = 0; k < sizeof answers / sizeof *answers; k++) every_fault(answers[k]);
     every_two_faults(4);
     every_repeat();
     full_store();
-    longest_answer();
-}
-
-int main(void)
-{
-    guard_make(&lent, SPOKEN_OF + BEHIND);
-    known_faults();
-    known_wide_faults();
-    judge(&REF_OLD);
-    judge(&REF_WIDE);
-    printf("faults: %lu good and broken stores of both forms have the fault that was put in, or none\n", all_judged());
+    printf("faults: %lu good and broken stores have the fault that was put in, or none\n", all_judged());
     return 0;
 }

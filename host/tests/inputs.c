@@ -191,7 +191,7 @@ static void some_answers(uint8_t *s, size_t room)
     bool full = random_below(200) == 0;
     uint32_t answers = full ? 64 : random_below(3) ? random_below(5) : random_below(70);
     for (uint32_t i = 0; i < answers; i++) {
-        size_t n = answers > 5 ? 2 + random_below(8) : 2 + some_length(random_below(20) ? 800 : 59999);
+        size_t n = answers > 5 ? 2 + random_below(8) : 2 + some_length(random_below(20) ? 800 : 59998);
         random_bytes(answer, n);
         answer[0] = 0x76;
         bool dated = full || (answers < 5 && random_below(2)); /* long answers of some days too */
@@ -201,30 +201,27 @@ static void some_answers(uint8_t *s, size_t room)
     }
 }
 
-/* A fault of any number at any entry, if it fits: the length of the buffer. A wide stream over its bound is longer than what is drawn, and
- * cut off. */
+/* A fault of any number at any entry, if it fits: the length of the buffer. */
 static size_t some_fault(uint8_t *s)
 {
     uint32_t number = 13 + random_below(5);
     fault f = {random_below(FAULTS), random_below((uint32_t)count_in(s)), 0};
     while (FAULT[f.kind].number != number) f.kind = random_below(FAULTS);
     f.first = random_below((uint32_t)f.at);
-    if (f.kind == STREAM_OVER) f.at = ref_form_of(s, 2)->stream_most + 1;
+    if (f.kind == STREAM_OVER) f.at = 60001;
     if (f.kind == COUNT_OVER) f.at = 65;
     if (!fault_fits(s, f)) return whole(s);
     spoil_store(s, s, f);
-    size_t len = spoilt_len(s, f);
-    return len < DRAWN_MOST ? len : DRAWN_MOST;
+    return spoilt_len(s, f);
 }
 
-/* A store, sometimes with a fault, damaged, begun by the mark of the other form or with bytes behind it. */
+/* A store, sometimes with a fault, damaged or with bytes behind it. */
 size_t some_store(uint8_t *s)
 {
-    const ref_form *form = random_below(2) ? &REF_WIDE : &REF_OLD;
-    size_t room = random_below(4) ? 2000 : DRAWN_MOST;
-    ref_store_empty(form, s);
+    size_t room = random_below(4) ? 2000 : LONGEST;
+    memset(s, 0, room);
     some_answers(s, room);
-    size_t n = whole(s), front = ref_entry_at(form, 1);
+    size_t n = whole(s), front = REF_STORE_HEADER + REF_STORE_ENTRY;
     if (random_below(6) == 0) n = some_fault(s);
     if (random_below(6) == 0) damage(s, &n, room);
     if (random_below(4) == 0 && n + 20 < room) {
@@ -232,19 +229,7 @@ size_t some_store(uint8_t *s)
         n += random_below(21);
     }
     if (random_below(12) == 0 && n > front) damage(s, &(size_t){front}, front);
-    if (random_below(24) == 0 && n > 1) memset(s, form == &REF_OLD ? 0xFF : 0, 2);
     return n;
-}
-
-size_t other_form(const uint8_t *s, size_t n, uint8_t *other)
-{
-    size_t len = ref_store_empty(ref_form_of(s, n) == &REF_OLD ? &REF_WIDE : &REF_OLD, other), count = ref_store_count(s, n).count;
-    for (size_t k = 0; k < count; k++) {
-        tacho_held h = ref_store_answer(s, n, k);
-        tacho_written w = ref_store_append(other, DRAWN_MOST, s + h.start, h.len, h.day);
-        if (w.number == 0) len = w.len;
-    }
-    return len;
 }
 
 /* The name of an answer in an unbroken store, if it has one; activities by a second of their day, or next to it. */

@@ -4,8 +4,8 @@
 
 #include "readdressed.h"
 
-/* The longest stores, answers and rooms that are drawn: past the old form's bounds; and states that are some bytes too long. */
-enum { DRAWN_MOST = 140000, STATE_ROOM = 20 };
+/* The longest buffers that are lent: stores and rooms with bytes to spare, and states that are some bytes too long. */
+enum { LONGEST = TACHO_STORE_MOST + 100, STATE_ROOM = 20 };
 
 /* A TREP, mostly a listed one; whether it is one of activities; a day to ask for beside it. */
 uint8_t some_trep(void);
@@ -24,10 +24,8 @@ addresses some_addresses(void);
 /* A frame with these addresses, up to 300 bytes; a number in it lies near the one given. */
 size_t some_frame(uint8_t *f, addresses a, bool to_tool, uint16_t near);
 
-/* A store of either form, sometimes broken; the answers of an unbroken one in the other form, as many as that takes, of a broken one none;
- * a name that a store may hold; the frame of a request for such a name. */
+/* A store, sometimes broken; a name that it may hold; the frame of a request for such a name. */
 size_t some_store(uint8_t *s);
-size_t other_form(const uint8_t *s, size_t n, uint8_t *other);
 void name_in(const uint8_t *s, size_t n, uint8_t *trep, uint32_t *day);
 size_t some_held_request(uint8_t *f, addresses a, const uint8_t *s, size_t n);
 

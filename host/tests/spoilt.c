@@ -16,8 +16,7 @@ const kind_of_fault FAULT[FAULTS] = {
     [LENGTH_MORE] = {"a length one high", 15},
     [LENGTH_0] = {"length 0", 15},
     [LENGTH_1] = {"length 1", 15},
-    [LENGTH_OVER] = {"a length one over the longest answer's", 15},
-    [LENGTH_MOST] = {"a length of FF bytes", 15},
+    [LENGTH_MOST] = {"length 65,535", 15},
     [END_PAST] = {"an end one past the stream", 15},
     [STREAM_OVER] = {"a stream over its bound", 14},
     [COUNT_OVER] = {"too many answers", 14},
@@ -28,33 +27,34 @@ const kind_of_fault FAULT[FAULTS] = {
 const uint8_t TREPS[15] = {0, 1, 2, 3, 4, 5, 0x21, 0x22, 0x23, 0x24, 0x25, 0x31, 0x32, 0x33, 0x35};
 const uint8_t DATED[3] = {0x02, 0x22, 0x32};
 
+size_t two_at(const uint8_t *b)
+{
+    return (size_t)b[0] << 8 | b[1];
+}
+
+static void put_two(uint8_t *b, size_t n)
+{
+    memcpy(b, (const uint8_t[]){REF_TWO_BYTES(n)}, 2);
+}
+
 void put_four(uint8_t *b, uint32_t n)
 {
     memcpy(b, (const uint8_t[]){REF_FOUR_BYTES(n)}, 4);
 }
 
-size_t count_in(const uint8_t *s)
+size_t entry_at(size_t i)
 {
-    const ref_form *form = ref_form_of(s, 2);
-    return ref_field(form, s + form->mark);
+    return REF_STORE_HEADER + REF_STORE_ENTRY * i;
 }
 
-size_t stream_len_in(const uint8_t *s)
+size_t count_in(const uint8_t *s)
 {
-    const ref_form *form = ref_form_of(s, 2);
-    return ref_field(form, s + form->stream_len);
+    return two_at(s + REF_STORE_AT_COUNT);
 }
 
 size_t whole(const uint8_t *s)
 {
-    return ref_entry_at(ref_form_of(s, 2), count_in(s)) + stream_len_in(s);
-}
-
-/* The length that an entry gives its answer. */
-static size_t len_at(const uint8_t *s, size_t i)
-{
-    const ref_form *form = ref_form_of(s, 2);
-    return ref_field(form, s + ref_entry_at(form, i) + form->len);
+    return entry_at(count_in(s)) + two_at(s + REF_STORE_AT_STREAM_LEN);
 }
 
 bool fault_fits(const uint8_t *good, fault f)
@@ -64,29 +64,21 @@ bool fault_fits(const uint8_t *good, fault f)
     case STREAM_LONGER: case STREAM_OVER: case COUNT_OVER: case CUT: case HEADER_CUT: return true;
     case STREAM_SHORTER: return answers > 0;
     case NAME_TWICE: return f.first < f.at && f.at < answers;
-    case LENGTH_LESS: return f.at < answers && len_at(good, f.at) > 2;
-    case LENGTH_OVER: return f.at < answers && ref_form_of(good, 2) == &REF_WIDE; /* a field of the old form has no such number */
+    case LENGTH_LESS: return f.at < answers && two_at(good + entry_at(f.at) + REF_ENTRY_AT_LEN) > 2;
     case LENGTH_MORE: return f.at + 1 < answers;
     default: return f.at < answers;
     }
 }
 
-/* Where answer i stands. */
-static size_t answer_at(const uint8_t *s, size_t i)
-{
-    const ref_form *form = ref_form_of(s, 2);
-    return ref_entry_at(form, count_in(s)) + ref_field(form, s + ref_entry_at(form, i) + REF_ENTRY_AT_OFFSET);
-}
-
 /* 16 and 17: the answer or its day. */
 static void spoil_answer(const uint8_t *good, uint8_t *s, fault f)
 {
-    const ref_form *form = ref_form_of(good, 2);
-    uint8_t *answer = s + answer_at(good, f.at), *day = s + ref_entry_at(form, f.at) + REF_ENTRY_AT_DAY;
+    size_t stream = entry_at(count_in(good)), at = entry_at(f.at), first = entry_at(f.first);
+    uint8_t *answer = s + stream + two_at(good + at + REF_ENTRY_AT_OFFSET), *day = s + at + REF_ENTRY_AT_DAY;
     switch (f.kind) {
     case NAME_TWICE:
-        memcpy(day, good + ref_entry_at(form, f.first) + REF_ENTRY_AT_DAY, 4);
-        answer[1] = good[answer_at(good, f.first) + 1];
+        memcpy(day, good + first + REF_ENTRY_AT_DAY, 4);
+        answer[1] = good[stream + two_at(good + first + REF_ENTRY_AT_OFFSET) + 1];
         break;
     case FIRST_BYTE: answer[0] = 0x75; break;
     case TREP_UNLISTED: answer[1] = 0x06; break;
@@ -98,36 +90,36 @@ static void spoil_answer(const uint8_t *good, uint8_t *s, fault f)
 /* 15: the entry, or the header's stream length. */
 static void spoil_entry(const uint8_t *good, uint8_t *s, fault f)
 {
-    const ref_form *form = ref_form_of(good, 2);
-    size_t at = ref_entry_at(form, f.at), offset = ref_field(form, good + at + REF_ENTRY_AT_OFFSET);
-    uint8_t *put_offset = s + at + REF_ENTRY_AT_OFFSET, *put_len = s + at + form->len, *put_stream_len = s + form->stream_len;
+    const uint8_t *entry = good + entry_at(f.at);
+    size_t offset = two_at(entry + REF_ENTRY_AT_OFFSET), len = two_at(entry + REF_ENTRY_AT_LEN);
+    size_t stream_len = two_at(good + REF_STORE_AT_STREAM_LEN);
+    uint8_t *put_offset = s + entry_at(f.at) + REF_ENTRY_AT_OFFSET, *put_len = s + entry_at(f.at) + REF_ENTRY_AT_LEN;
+    uint8_t *put_stream_len = s + REF_STORE_AT_STREAM_LEN;
     switch (f.kind) {
-    case STREAM_LONGER: ref_put_field(form, put_stream_len, stream_len_in(good) + 1); break;
-    case STREAM_SHORTER: ref_put_field(form, put_stream_len, stream_len_in(good) - 1); break;
-    case OFFSET_LOW: ref_put_field(form, put_offset, offset - 1); break; /* of entry 0: FF bytes */
-    case OFFSET_HIGH: ref_put_field(form, put_offset, offset + 1); break;
-    case LENGTH_LESS: ref_put_field(form, put_len, len_at(good, f.at) - 1); break;
-    case LENGTH_MORE: ref_put_field(form, put_len, len_at(good, f.at) + 1); break;
-    case LENGTH_0: ref_put_field(form, put_len, 0); break;
-    case LENGTH_1: ref_put_field(form, put_len, 1); break;
-    case LENGTH_OVER: ref_put_field(form, put_len, REF_ANSWER_MOST + 1); break;
-    case LENGTH_MOST: ref_put_field(form, put_len, 0xFFFFFFFF); break;
-    default: ref_put_field(form, put_len, stream_len_in(s) - offset + 1); break; /* the stream may have been spoilt before */
+    case STREAM_LONGER: put_two(put_stream_len, stream_len + 1); break;
+    case STREAM_SHORTER: put_two(put_stream_len, stream_len - 1); break;
+    case OFFSET_LOW: put_two(put_offset, offset - 1); break; /* of entry 0: 65,535 */
+    case OFFSET_HIGH: put_two(put_offset, offset + 1); break;
+    case LENGTH_LESS: put_two(put_len, len - 1); break;
+    case LENGTH_MORE: put_two(put_len, len + 1); break;
+    case LENGTH_0: put_two(put_len, 0); break;
+    case LENGTH_1: put_two(put_len, 1); break;
+    case LENGTH_MOST: put_two(put_len, 0xFFFF); break;
+    default: put_two(put_len, two_at(put_stream_len) - offset + 1); break; /* the stream may have been spoilt before */
     }
 }
 
 void spoil_store(const uint8_t *good, uint8_t *s, fault f)
 {
-    const ref_form *form = ref_form_of(good, 2);
     switch (FAULT[f.kind].number) {
     case 17: case 16: spoil_answer(good, s, f); break;
     case 15: spoil_entry(good, s, f); break;
-    case 14: ref_put_field(form, s + (f.kind == COUNT_OVER ? form->mark : form->stream_len), f.at); break;
+    case 14: put_two(s + (f.kind == COUNT_OVER ? REF_STORE_AT_COUNT : REF_STORE_AT_STREAM_LEN), f.at); break;
     default: break; /* the buffer is shorter, which is spoilt_len's */
     }
 }
 
 size_t spoilt_len(const uint8_t *s, fault f)
 {
-    return f.kind == HEADER_CUT ? ref_form_of(s, 2)->header - 1 : whole(s) - (f.kind == CUT);
+    return f.kind == HEADER_CUT ? REF_STORE_HEADER - 1 : whole(s) - (f.kind == CUT);
 }

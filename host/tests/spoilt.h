@@ -1,4 +1,4 @@
-/* Faults that are put into a store of either form without any (document 02, Req 06 and Req 08), and what of a store they need. */
+/* Faults that are put into a store without any (document 02, Req 06), and what of a store's layout they need. */
 #ifndef SPOILT_H
 #define SPOILT_H
 
@@ -8,7 +8,7 @@
  * higher one. */
 typedef enum {
     NAME_TWICE, FIRST_BYTE, TREP_UNLISTED, DAY_IN_ACTIVITIES, DAY_ELSEWHERE, STREAM_LONGER, STREAM_SHORTER, OFFSET_LOW, OFFSET_HIGH,
-    LENGTH_LESS, LENGTH_MORE, LENGTH_0, LENGTH_1, LENGTH_OVER, LENGTH_MOST, END_PAST, STREAM_OVER, COUNT_OVER, CUT, HEADER_CUT, FAULTS
+    LENGTH_LESS, LENGTH_MORE, LENGTH_0, LENGTH_1, LENGTH_MOST, END_PAST, STREAM_OVER, COUNT_OVER, CUT, HEADER_CUT, FAULTS
 } fault_kind;
 
 /* Each kind in words, and the number that it has. */
@@ -37,12 +37,15 @@ size_t spoilt_len(const uint8_t *s, fault f);
 /* The TREPs that an answer in a store can have; and those of activities, which alone have a day. */
 extern const uint8_t TREPS[15], DATED[3];
 
-/* The day of an entry. */
+/* Numbers of two and four bytes, the most significant first. */
+size_t two_at(const uint8_t *b);
 void put_four(uint8_t *b, uint32_t n);
 
-/* Of a whole store: how many answers it has by its header, the length of its stream, and of all of it. */
+/* Where entry i of a store stands; the stream stands behind the last. */
+size_t entry_at(size_t i);
+
+/* How many answers a store has by its header, and how long it is. */
 size_t count_in(const uint8_t *s);
-size_t stream_len_in(const uint8_t *s);
 size_t whole(const uint8_t *s);
 
 #endif

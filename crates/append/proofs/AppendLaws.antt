@@ -1,6 +1,6 @@
 -- Appending, from the tests of the code: the number, and the bytes written one behind the other.
 use Prim.Native.Nat.{ℕ, ◌+◌, ◌-◌, ◌<◌, ◌≤◌}
-use mathlib.Core.Bool.{Bool, true, false, not}
+use mathlib.Core.Bool.{true, false, not}
 use mathlib.Core.List.{List, ◌++◌, append_assoc}
 use mathlib.Core.Path.{◌≡◌, refl, sym, ap, ◌∙◌}
 use native.Mathlib.Omega.{arith}
@@ -10,17 +10,15 @@ use lib.ListN.{length, get_or, take, drop, length-append, length-take, length-dr
 use lib.Seq.{slice, take_all, take-take, take-append-le, drop-drop, take_at, drop_at, length-take-le, length-slice}
 use borrow.Author.Tests.{lt-ltb, le-ltb, le-leb, lt-leb, ne_eqb, leb-true, ltb-false, not-true}
 use Rattle.octets.specs.Numbers.{changed_by}
-use Rattle.octets.specs.declared.Written.{Written}
 use Rattle.octets.specs.Buffer.{part_at, front, put, copied, moved, shifted}
-use Rattle.fields.specs.BigEndian.{field_width, bytes_of, with_number}
+use Rattle.fields.specs.BigEndian.{bytes_of, with_number}
 use Rattle.octets.proofs.BufferLaws.{length_part, length_front, length-put, put_front, put-put, lent-copy, shifted_fits}
 use Rattle.octets.proofs.CallLaws.{changed-by}
 use Rattle.fields.proofs.NumberLaws.{length-bytes}
 use Rattle.octets.proofs.OrderLaws.{unless-is, or-zero}
 use Rattle.octets.proofs.PartLaws.{part_left, part-take, front_kept}
 use Rattle.fields.proofs.FieldLaws.{number_put, numbers-put}
-use Rattle.store.specs.Layout.{Form, answer_most, is_wide, form_by, form_of, header_size, entry_size, entries_size, answers, stream_length, stream_start}
-use Rattle.store.specs.Layout.{store_length, stream_of}
+use Rattle.store.specs.Layout.{Form, Sized, header_size, entry_size, entries_size, answers, stream_length, stream_start, store_length, stream_of}
 use Rattle.store.specs.Check.{store_number}
 use Rattle.store.specs.Read.{position, is_held, lookup_number, lookup_place, lookup_both}
 use Rattle.store.specs.declared.TwoPlaces.{TwoPlaces}
@@ -29,58 +27,29 @@ use Rattle.store.proofs.StoreLaws as stores
 use Rattle.catalog.specs.Name.{rounded}
 use Rattle.catalog.specs.declared.AnswerName.{AnswerName}
 use Rattle.store.specs.Answer.{name_of, answer_number}
-use Rattle.append.specs.Append.{room_number, append_number, with_answer, append_result, append_out}
-use Rattle.store.proofs.FormLaws.{sized-by, many_by, most-by, header-size, entry-size}
+use Rattle.append.specs.Append.{room_number, append_number, with_answer, append_out}
+use Rattle.store.proofs.FormLaws.{header-size, entry-size}
 
--- The room; m is the answer's length, c and l the form's bounds, n, t and b what the code read, e the size of an entry
+-- The room; m is the answer's length, n, t and b what the code read, e the size of an entry
 
-module _ (f : Form) (m : ℕ) (s : List ℕ) (c n : ℕ) (ec : c ≡ f.answers_most) (en : n ≡ answers f s) where
-  pub room-count : c < n + 1 → 8 ≡ room_number f m s
+module _ (f : Form) (m : ℕ) (s : List ℕ) (n : ℕ) (en : n ≡ answers f s) where
+  pub room-count : f.answers_most < n + 1 → 8 ≡ room_number f m s
   unfolding room_number
-  room-count h = rw (← ec, ← en, lt-leb (n + 1) c h)
+  room-count h = rw (← en, lt-leb (n + 1) f.answers_most h)
 
-  module _ (few : n + 1 ≤ c) where
-    pub room-answer : answer_most < m → 8 ≡ room_number f m s
+  module _ (t : ℕ) (et : t ≡ stream_length f s) (few : n + 1 ≤ f.answers_most) where
+    pub room-stream : f.stream_most < t + m → 8 ≡ room_number f m s
     unfolding room_number
-    room-answer h = rw (← ec, ← en, le-leb (n + 1) c few, lt-leb m answer_most h)
+    room-stream h = rw (← en, ← et, le-leb (n + 1) f.answers_most few, lt-leb (t + m) f.stream_most h)
 
-    module _ (one : m ≤ answer_most) (l t : ℕ) (el : l ≡ f.stream_most) (et : t ≡ stream_length f s) where
-      pub room-stream : l < t + m → 8 ≡ room_number f m s
+    module _ (b e : ℕ) (eb : b ≡ stream_start f s) (ee : e ≡ entry_size f) (short : t + m ≤ f.stream_most) where
+      pub room-short : length s < b + t + e + m → 4 ≡ room_number f m s
       unfolding room_number
-      room-stream h = rw (← ec, ← en, ← el, ← et, le-leb (n + 1) c few, le-leb m answer_most one, lt-leb (t + m) l h)
+      room-short h = rw (← eb, ← en, ← et, ← ee, le-leb (n + 1) f.answers_most few, le-leb (t + m) f.stream_most short, lt-leb (b + t + e + m) (length s) h)
 
-      module _ (b e : ℕ) (eb : b ≡ stream_start f s) (ee : e ≡ entry_size f) (short : t + m ≤ l) where
-        pub room-short : length s < b + t + e + m → 4 ≡ room_number f m s
-        unfolding room_number entry_size
-        room-short h =
-            rw (
-              ← eb,
-              ← ec,
-              ← en,
-              ← el,
-              ← et,
-              ← ee,
-              le-leb (n + 1) c few,
-              le-leb m answer_most one,
-              le-leb (t + m) l short,
-              lt-leb (b + t + e + m) (length s) h,
-            )
-
-        pub room-some : b + t + e + m ≤ length s → 0 ≡ room_number f m s
-        unfolding room_number entry_size
-        room-some h =
-            rw (
-              ← eb,
-              ← ec,
-              ← en,
-              ← el,
-              ← et,
-              ← ee,
-              le-leb (n + 1) c few,
-              le-leb m answer_most one,
-              le-leb (t + m) l short,
-              le-leb (b + t + e + m) (length s) h,
-            )
+      pub room-some : b + t + e + m ≤ length s → 0 ≡ room_number f m s
+      unfolding room_number
+      room-some h = rw (← eb, ← en, ← et, ← ee, le-leb (n + 1) f.answers_most few, le-leb (t + m) f.stream_most short, le-leb (b + t + e + m) (length s) h)
 
 -- The name, from the TREP that the code read
 pub name-given : (a : List ℕ) (day trep : ℕ) → trep ≡ get_or a 1 0 → ◌≡◌ {A = AnswerName} (record { trep = trep; day = day }) (name_of a day)
@@ -140,7 +109,6 @@ pub record Accepted (f : Form) (a : List ℕ) (day : ℕ) (s : List ℕ) : Type 
   pub listed : answer_number a day ≡ 0
   pub fresh : answers f s ≤ position f (rounded (name_of a day)) s
   pub count : answers f s + 1 ≤ f.answers_most
-  pub answer : length a ≤ answer_most
   pub stream : stream_length f s + length a ≤ f.stream_most
   pub room : store_length f s + entry_size f + length a ≤ length s
 
@@ -151,15 +119,13 @@ accepted f a day s e =
     let q = or-zero _ _ p.rest in
     let h = unless-is _ 7 _ 0 refl q.rest in
     let n = unless-is _ 8 _ 0 refl h.rest in
-    let o = unless-is _ 8 _ 0 refl n.rest in
-    let t = unless-is _ 8 _ 0 refl o.rest in
+    let t = unless-is _ 8 _ 0 refl n.rest in
     let l = unless-is _ 4 _ 0 refl t.rest in
     record {
       unbroken = p.first;
       listed = q.first;
       fresh = leb-free h.first;
       count = leb-true _ _ n.first;
-      answer = leb-true _ _ o.first;
       stream = leb-true _ _ t.first;
       room = leb-true _ _ l.first;
     }
@@ -168,70 +134,52 @@ accepted f a day s e =
     leb-free {i} {n} h = ltb-false i n (not-true (ltb i n) h)
 
 -- the same from the number r that the code tested
-module _ (w : Bool) (a : List ℕ) (day : ℕ) (s : List ℕ) (r : ℕ) (e : r ≡ append_number (form_by w) a day s) (z : r ≡ 0) where
-  abbrev form : Form
-  form = form_by w
+module _ (f : Form) (a : List ℕ) (day : ℕ) (s : List ℕ) (r : ℕ) (e : r ≡ append_number f a day s) (z : r ≡ 0) where
+  pub accepted-count : answers f s + 1 ≤ f.answers_most
+  accepted-count = (accepted f a day s (sym e ∙ z)).count
 
-  pub accepted-count : answers (form_by w) s + 1 ≤ 64
-  accepted-count = rw (many_by w) (accepted form a day s (sym e ∙ z)).count
+  pub accepted-stream : stream_length f s + length a ≤ f.stream_most
+  accepted-stream = (accepted f a day s (sym e ∙ z)).stream
 
-  pub accepted-stream : stream_length (form_by w) s + length a ≤ 33554432
-  accepted-stream = omega (arith, (accepted form a day s (sym e ∙ z)).stream, most-by w)
+  pub accepted-room : store_length f s + entry_size f + length a ≤ length s
+  accepted-room = (accepted f a day s (sym e ∙ z)).room
 
-  pub accepted-room : store_length (form_by w) s + entry_size (form_by w) + length a ≤ length s
-  accepted-room = (accepted form a day s (sym e ∙ z)).room
-
-  pub accepted-length : (b t k : ℕ) → b ≡ stream_start (form_by w) s → t ≡ stream_length (form_by w) s → k ≡ entry_size (form_by w)
-      → b + t + k + length a ≡ changed_by (append_number (form_by w) a day s) (store_length (form_by w) s + entry_size (form_by w) + length a) 0
+  pub accepted-length : (b t k : ℕ) → b ≡ stream_start f s → t ≡ stream_length f s → k ≡ entry_size f
+      → b + t + k + length a ≡ changed_by (append_number f a day s) (store_length f s + entry_size f + length a) 0
   accepted-length b t k p q l = changed-by r _ _ _ 0 e z (rw (p, q, l))
 
   -- the store that was written under the day of the rounded name
-  pub accepted-out : (name kept : AnswerName) (out : List ℕ) → name ≡ name_of a day → kept ≡ rounded name → out ≡ front (with_answer (form_by w) a kept.day s) s
-      → out ≡ append_out (form_by w) a day s
+  pub accepted-out : (name kept : AnswerName) (out : List ℕ) → name ≡ name_of a day → kept ≡ rounded name → out ≡ front (with_answer f a kept.day s) s
+      → out ≡ append_out f a day s
   unfolding append_out
   accepted-out name kept out p q o = changed-by r _ out _ s e z (o ∙ rw (q, p))
 
--- the append at the form of the buffer, from what it is at the form w that the code found
-module _ (a : List ℕ) (day : ℕ) (s : List ℕ) (w : Bool) (e : w ≡ is_wide s) where
-  pub result-here : (r : Written) → r ≡ append_result (form_by w) a day s → r ≡ append_result (form_of s) a day s
-  result-here r q = rw (← e) q
-
-  pub out-here : (out : List ℕ) → out ≡ append_out (form_by w) a day s → out ≡ append_out (form_of s) a day s
-  out-here out q = rw (← e) q
-
 -- Fields one behind the other
 
-module _ (v : Bool) (s o₁ o₂ : List ℕ) (w : ℕ) (ew : w ≡ (form_by v).width) where
-  field : field_width w ≡ true
-  field = rw ew (sized-by v).field
+module _ (f : Form) (sized : Sized f) (s o₁ o₂ : List ℕ) where
+  abbrev w : ℕ
+  w = f.width
 
-  -- the two of the header; m is the mark's length
-  pub header-written : (m n t : ℕ) → m ≡ length (form_by v).mark → header_size (form_by v) ≤ length s
-      → o₁ ≡ with_number w m n s → o₂ ≡ with_number w (m + w) t o₁
-      → o₂ ≡ put (length (form_by v).mark) (bytes_of (form_by v).width n ++ bytes_of (form_by v).width t) s
-  header-written m n t em h e₁ e₂ =
-      rw (← em, ← ew)
-      (e₂ ∙ ap (with_number w (m + w) t) e₁ ∙ numbers-put w w m n t s field field (omega (arith, header-size (form_by v))))
+  -- the two of the header
+  pub header-written : (n t : ℕ) → header_size f ≤ length s → o₁ ≡ with_number w (length f.mark) n s → o₂ ≡ with_number w (length f.mark + w) t o₁
+      → o₂ ≡ put (length f.mark) (bytes_of w n ++ bytes_of w t) s
+  header-written n t h e₁ e₂ =
+      e₂ ∙ ap (with_number w (length f.mark + w) t) e₁ ∙ numbers-put w w (length f.mark) n t s sized.field sized.field (omega (arith, header-size f))
 
-  entry-by : (o₃ : List ℕ) (at day off len : ℕ) → at + (4 + (w + w)) ≤ length s
+  -- the three of an entry
+  pub entry-written : (o₃ : List ℕ) (at day off len : ℕ) → at + entry_size f ≤ length s
       → o₁ ≡ with_number 4 at day s → o₂ ≡ with_number w (at + 4) off o₁ → o₃ ≡ with_number w (at + 4 + w) len o₂
       → o₃ ≡ put at (bytes_of 4 day ++ (bytes_of w off ++ bytes_of w len)) s
-  entry-by o₃ at day off len h e₁ e₂ e₃ =
+  entry-written o₃ at day off len h e₁ e₂ e₃ =
+      let size = entry-size f in
       let d : List ℕ = bytes_of 4 day in
       let l : length (put at d s) ≡ length s = length-put at d s (omega arith) in
       let p : o₁ ≡ put at d s = e₁ ∙ number_put 4 at day s refl (omega arith) in
       e₃
       ∙ ap (with_number w (at + 4 + w) len) e₂
-      ∙ numbers-put w w (at + 4) off len o₁ field field (rw p (omega arith))
+      ∙ numbers-put w w (at + 4) off len o₁ sized.field sized.field (rw p (omega arith))
       ∙ ap (put (at + 4) (bytes_of w off ++ bytes_of w len)) p
       ∙ put-put at d (bytes_of w off ++ bytes_of w len) s (omega arith)
-
-  -- the three of an entry
-  pub entry-written : (o₃ : List ℕ) (at day off len : ℕ) → at + entry_size (form_by v) ≤ length s
-      → o₁ ≡ with_number 4 at day s → o₂ ≡ with_number w (at + 4) off o₁ → o₃ ≡ with_number w (at + 4 + w) len o₂
-      → o₃ ≡ put at (bytes_of 4 day ++ (bytes_of (form_by v).width off ++ bytes_of (form_by v).width len)) s
-  entry-written o₃ at day off len h e₁ e₂ e₃ =
-      rw (← ew) (entry-by o₃ at day off len (omega (arith, entry-size (form_by v))) e₁ e₂ e₃)
 
 regroup : (k c t e d o l s a : List ℕ) → ((((k ++ (c ++ t)) ++ e) ++ (d ++ (o ++ l))) ++ s) ++ a ≡ k ++ (c ++ (t ++ (e ++ (d ++ (o ++ (l ++ (s ++ a)))))))
 regroup k c t e d o l s a = simp append_assoc

@@ -33,5 +33,5 @@ claims =
       leaves = leaves;
       days = day-claims;
       day_examples = day-examples;
-      old = record { fills = λ name d s allowed. fills name d s allowed; one_more = one_more_lem };
+      narrow_form = record { fills = λ name d s allowed. fills name d s allowed; one_more = one_more_lem };
     }

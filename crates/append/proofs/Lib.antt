@@ -5,5 +5,4 @@ pub mod Theorems
 pub mod Refusals
 pub mod Bounds
 pub mod Days
-pub mod Forms
 pub mod Claims

@@ -2,7 +2,7 @@
 use Prim.Native.Nat.{ℕ, ◌+◌, ◌<◌, ◌≤◌}
 use mathlib.Core.Bool.{Bool, true, false, not}
 use mathlib.Core.List.{List}
-use mathlib.Core.Logic.{◌↔◌, ⊎_elim}
+use mathlib.Core.Logic.{◌↔◌, ◌⊎◌, inl, inr, ⊎_elim}
 use mathlib.Core.Path.{◌≡◌, refl, sym, ◌∙◌}
 use native.Mathlib.Omega.{arith}
 use lib.Dec.{eqb, leb}
@@ -10,7 +10,7 @@ use lib.ListN.{length}
 use borrow.Author.Tests.{lt-ltb, le-ltb, le-leb, lt-leb, ne_eqb, ltb-true, ltb-false, leb-true, leb-false, eqb-false, not-true, not-false}
 use Rattle.octets.specs.Order.{unless}
 use Rattle.octets.proofs.OrderLaws.{Both, unless-is, unless-fails, or_is, or-first}
-use Rattle.store.specs.Layout.{Form, answer_most, entry_size, answers, stream_length, store_length}
+use Rattle.store.specs.Layout.{Form, entry_size, answers, stream_length, store_length}
 use Rattle.store.specs.Check.{store_number}
 use Rattle.store.specs.Read.{position, is_held}
 use Rattle.catalog.specs.Name.{rounded}
@@ -21,7 +21,7 @@ use Rattle.store.proofs.PositionLaws.{held-position, position-held, missing-posi
 use Rattle.store.proofs.StoreLaws.{store-not}
 use Rattle.store.proofs.Refusals.{unless-before, fault-not, fault-first, answer-either, unlisted-number, number-unlisted}
 use Rattle.append.specs.Append.{room_number, append_number}
-use Rattle.append.specs.Claims.{Judged, Fresh, Bounded, Over, count, one, stream}
+use Rattle.append.specs.Claims.{Judged, Fresh, Bounded}
 use Rattle.append.proofs.AppendLaws.{accepted}
 
 module _ (f : Form) (a : List ℕ) (day : ℕ) (s : List ℕ) where
@@ -63,8 +63,7 @@ module _ (f : Form) (a : List ℕ) (day : ℕ) (s : List ℕ) where
   unfolding room_number
   room-not k eight four zero e =
       let n = unless-is (leb (answers f s + 1) f.answers_most) 8 _ k eight e in
-      let o = unless-is (leb (length a) answer_most) 8 _ k eight n.rest in
-      let t = unless-is (leb (stream_length f s + length a) f.stream_most) 8 _ k eight o.rest in
+      let t = unless-is (leb (stream_length f s + length a) f.stream_most) 8 _ k eight n.rest in
       eqb-false 0 k zero (unless-is (leb (store_length f s + entry_size f + length a) (length s)) 4 0 k four t.rest).rest
 
   -- what is behind 12 gives 7, 8, 4 or 0
@@ -107,55 +106,45 @@ module _ (f : Form) (a : List ℕ) (day : ℕ) (s : List ℕ) where
       let known = unless-fails (not found) 7 _ (room-not 7 refl refl refl) j.rest in
       (j.first, position-held f (rounded (name_of a day)) s (ltb-true _ _ (not-false _ known)))
 
-  -- 8 exactly where the store would pass the form's bounds, or the answer its own
-  over-room : Over f a s → room_number f (length a) s ≡ 8
+  -- 8 exactly where the store would pass the form's bounds
+  pub over-bound : Fresh f a day s → (f.answers_most < answers f s + 1) ⊎ (f.stream_most < stream_length f s + length a) → append_number f a day s ≡ 8
   unfolding room_number
-  over-room (count l) = rw (lt-leb (answers f s + 1) f.answers_most l)
-  over-room (one l) = unless-before (leb (answers f s + 1) f.answers_most) 8 _ (rw (lt-leb (length a) answer_most l))
-  over-room (stream l) =
-      unless-before (leb (answers f s + 1) f.answers_most) 8 _
-      (unless-before (leb (length a) answer_most) 8 _
-      (rw (lt-leb (stream_length f s + length a) f.stream_most l)))
+  over-bound known h =
+      let count : f.answers_most < answers f s + 1 → room_number f (length a) s ≡ 8 = λ l. rw (lt-leb (answers f s + 1) f.answers_most l) in
+      let stream : f.stream_most < stream_length f s + length a → room_number f (length a) s ≡ 8 =
+      λ l. unless-before (leb (answers f s + 1) f.answers_most) 8 _ (rw (lt-leb (stream_length f s + length a) f.stream_most l)) in
+      room-is known 8 (⊎_elim count stream h)
 
-  pub over-bound : Fresh f a day s → Over f a s → append_number f a day s ≡ 8
-  over-bound known h = room-is known 8 (over-room h)
-
-  pub over-bound-only : append_number f a day s ≡ 8 → Fresh f a day s × Over f a s
+  pub over-bound-only : append_number f a day s ≡ 8 → Fresh f a day s × ((f.answers_most < answers f s + 1) ⊎ (f.stream_most < stream_length f s + length a))
   unfolding room_number
   over-bound-only e =
       let known = fresh-is 8 refl (omega arith) refl e in
-      let room : Bool = leb (store_length f s + entry_size f + length a) (length s) in (
-        known.first,
-        go (leb (answers f s + 1) f.answers_most) (leb (length a) answer_most) (leb (stream_length f s + length a) f.stream_most) room
-            refl refl refl known.rest,
-      )
+      let room : Bool = leb (store_length f s + entry_size f + length a) (length s) in
+      (known.first, go (leb (answers f s + 1) f.answers_most) (leb (stream_length f s + length a) f.stream_most) room refl refl known.rest)
     where
-      go : (b o c d : Bool) → leb (answers f s + 1) f.answers_most ≡ b → leb (length a) answer_most ≡ o
-          → leb (stream_length f s + length a) f.stream_most ≡ c
-          → ◌≡◌ {A = ℕ} (unless b 8 (unless o 8 (unless c 8 (unless d 4 0)))) 8 → Over f a s
-      go false o c d p v q r = count (leb-false _ _ p)
-      go true false c d p v q r = one (leb-false _ _ v)
-      go true true false d p v q r = stream (leb-false _ _ q)
-      go true true true true p v q r = absurd (omega arith)
-      go true true true false p v q r = absurd (omega arith)
+      go : (b c d : Bool) → leb (answers f s + 1) f.answers_most ≡ b → leb (stream_length f s + length a) f.stream_most ≡ c
+          → ◌≡◌ {A = ℕ} (unless b 8 (unless c 8 (unless d 4 0))) 8
+          → (f.answers_most < answers f s + 1) ⊎ (f.stream_most < stream_length f s + length a)
+      go false c d p q r = inl (leb-false _ _ p)
+      go true false d p q r = inr (leb-false _ _ q)
+      go true true true p q r = absurd (omega arith)
+      go true true false p q r = absurd (omega arith)
 
   -- 4 exactly where the buffer is shorter than the new store
   pub buffer-short : Bounded f a day s → length s < store_length f s + entry_size f + length a → append_number f a day s ≡ 4
   unfolding room_number
   buffer-short b h =
-      let many = le-leb (answers f s + 1) f.answers_most b.count in
-      let single = le-leb (length a) answer_most b.one in
-      let all = le-leb (stream_length f s + length a) f.stream_most b.stream in
-      room-is b.fresh 4 (rw (many, single, all, lt-leb (store_length f s + entry_size f + length a) (length s) h))
+      let count = le-leb (answers f s + 1) f.answers_most b.count in
+      let stream = le-leb (stream_length f s + length a) f.stream_most b.stream in
+      room-is b.fresh 4 (rw (count, stream, lt-leb (store_length f s + entry_size f + length a) (length s) h))
 
   pub buffer-short-only : append_number f a day s ≡ 4 → Bounded f a day s × (length s < store_length f s + entry_size f + length a)
   unfolding room_number
   buffer-short-only e =
       let known = fresh-is 4 refl (omega arith) refl e in
       let n = unless-is (leb (answers f s + 1) f.answers_most) 8 _ 4 refl known.rest in
-      let o = unless-is (leb (length a) answer_most) 8 _ 4 refl n.rest in
-      let t = unless-is (leb (stream_length f s + length a) f.stream_most) 8 _ 4 refl o.rest in (
-        record { fresh = known.first; count = leb-true _ _ n.first; one = leb-true _ _ o.first; stream = leb-true _ _ t.first },
+      let t = unless-is (leb (stream_length f s + length a) f.stream_most) 8 _ 4 refl n.rest in (
+        record { fresh = known.first; count = leb-true _ _ n.first; stream = leb-true _ _ t.first },
         leb-false _ _ (unless-fails (leb (store_length f s + entry_size f + length a) (length s)) 4 0 (λ z. omega arith) t.rest),
       )
 
@@ -163,14 +152,13 @@ module _ (f : Form) (a : List ℕ) (day : ℕ) (s : List ℕ) where
   pub append-taken : Bounded f a day s → store_length f s + entry_size f + length a ≤ length s → append_number f a day s ≡ 0
   unfolding room_number
   append-taken b h =
-      let many = le-leb (answers f s + 1) f.answers_most b.count in
-      let single = le-leb (length a) answer_most b.one in
-      let all = le-leb (stream_length f s + length a) f.stream_most b.stream in
-      room-is b.fresh 0 (rw (many, single, all, le-leb (store_length f s + entry_size f + length a) (length s) h))
+      let count = le-leb (answers f s + 1) f.answers_most b.count in
+      let stream = le-leb (stream_length f s + length a) f.stream_most b.stream in
+      room-is b.fresh 0 (rw (count, stream, le-leb (store_length f s + entry_size f + length a) (length s) h))
 
   pub append-taken-only : append_number f a day s ≡ 0 → Bounded f a day s × (store_length f s + entry_size f + length a ≤ length s)
   append-taken-only e =
       let ok = accepted f a day s e in
       let judged : Judged f a day s = record { unbroken = ok.unbroken; listed = ok.listed } in
       let fresh : Fresh f a day s = record { judged = judged; missing = position-missing f (rounded (name_of a day)) s ok.fresh } in
-      (record { fresh = fresh; count = ok.count; one = ok.answer; stream = ok.stream }, ok.room)
+      (record { fresh = fresh; count = ok.count; stream = ok.stream }, ok.room)

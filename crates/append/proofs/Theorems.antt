@@ -1,5 +1,5 @@
 -- An append as one to the list, and what it leaves.
-use Prim.Native.Nat.{ℕ, suc, ◌+◌, ◌<◌, ◌≤◌}
+use Prim.Native.Nat.{ℕ, suc, ◌+◌, ◌<◌}
 use mathlib.Core.List.{List, [], ◌∷◌, ◌++◌, map, append_assoc, append-nil}
 use mathlib.Core.Path.{◌≡◌, sym, ap, ◌∙◌}
 use native.Mathlib.Omega.{arith}
@@ -12,7 +12,7 @@ use Rattle.fields.specs.BigEndian.{bytes_of}
 use Rattle.octets.proofs.PartLaws.{bytes-part, bytes_drop}
 use Rattle.catalog.specs.Name.{rounded}
 use Rattle.catalog.specs.declared.AnswerName.{AnswerName}
-use Rattle.store.specs.Layout.{Form, Sized, answer_most, entry_size, answers, stream_length, store_length}
+use Rattle.store.specs.Layout.{Form, Sized, entry_size, answers, stream_length, store_length}
 use Rattle.store.specs.Check.{store_number}
 use Rattle.store.specs.Read.{lookup_number, lookup_part, stream_part}
 use Rattle.store.specs.Contents.{Stored, name_for, kept, nothing, back_to_back, entry_bytes, entries_from, store_of, contents}
@@ -139,11 +139,6 @@ module _ (f : Form) (sized : Sized f) (g : Stored) (s : List ℕ) (formed : OfFo
             elim (dec_lt j (length old)) as (λ _. ⊥) [
               | yes b ↦ old-fit.different i j l b (rw (more-old old (kept g) i a, more-old old (kept g) j b) at e)
               | no b ↦ let q : j ≡ length old = omega arith in fresh i a (rw (q, more-new old (kept g), more-old old (kept g) i a) at e)
-            ];
-        each = λ i h.
-            elim (dec_lt i (length old)) as (λ _. length (get_or new i nothing).answer ≤ answer_most) [
-              | yes l ↦ rw (more-old old (kept g) i l) (old-fit.each i l)
-              | no l ↦ let e : i ≡ length old = omega arith in rw (e, more-new old (kept g)) ok.answer
             ];
         count = omega (arith, ok.count, contents-length f s);
         stream = rw (more-back old (kept g)) (omega (arith, length-append (back_to_back old) g.answer, reads.total, ok.stream));

@@ -7,7 +7,7 @@ use Rattle.fields.specs.BigEndian.{bytes_of}
 use Rattle.octets.specs.Buffer.{part_at, front}
 use Rattle.octets.specs.declared.Written.{Written}
 use Rattle.catalog.specs.Name.{rounded}
-use Rattle.store.specs.Layout.{Form, answer_most, header_size, entry_size, entries_size}
+use Rattle.store.specs.Layout.{Form, header_size, entry_size, entries_size}
 use Rattle.store.specs.Layout.{answers, stream_length, store_length, stream_of}
 use Rattle.store.specs.Check.{store_number}
 use Rattle.store.specs.Read.{is_held}
@@ -15,15 +15,13 @@ use Rattle.store.specs.Answer.{name_of, answer_number}
 use Rattle.store.specs.Contents.{Stored, name_for, kept, back_to_back, store_of, is_among}
 
 module _ (f : Form) where
-  -- "8: store would pass 64 answers or 60,000 stream bytes", "4: .. store buffer too short"; "Number 8 at appending ..
-  -- follow the form's bound, with one answer up to 16,449,035 bytes" (document 02, Req 08)
+  -- "8: store would pass 64 answers or 60,000 stream bytes", "4: .. store buffer too short"
   unfoldable pub room_number : ℕ → List ℕ → ℕ
   room_number n s =
       unless (leb (answers f s + 1) f.answers_most) over_bound
-      (unless (leb n answer_most) over_bound
       (unless (leb (stream_length f s + n) f.stream_most) over_bound
       (unless (leb (store_length f s + entry_size f + n) (length s)) buffer_short
-      done)))
+      done))
 
   -- "Appending: 5, 12, 7, 8, 4", with the number of the fault for 5; "the "already held" test" compares whole days
   unfoldable pub append_number : List ℕ → ℕ → List ℕ → ℕ
@@ -63,7 +61,6 @@ append_number_to f g buffer_len gs =
     or_else (answer_number g.answer g.day)
     (unless (not (is_among (rounded (name_for g)) gs)) already_held
     (unless (leb (length (with_last g gs)) f.answers_most) over_bound
-    (unless (leb (length g.answer) answer_most) over_bound
     (unless (leb (length (back_to_back (with_last g gs))) f.stream_most) over_bound
     (unless (leb (length (store_of f (with_last g gs))) buffer_len) buffer_short
-    done)))))
+    done))))

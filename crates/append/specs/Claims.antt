@@ -1,12 +1,12 @@
 -- What is claimed of appending (document 01, Bench store; House numbers): each number "Given exactly when" its rule
 -- says, the append as one of the list, what it leaves, and what any list of appends leaves. For every form whose bounds
 -- fit its fields; proofs/Claims.antt proves it.
-use Rattle.std.specs.Prelude.{ℕ, ◌+◌, ◌<◌, ◌≤◌, List, [], ◌∷◌, ◌++◌, map, ◌↔◌, ◌≢◌, ◌≡◌, length, get_or}
+use Rattle.std.specs.Prelude.{ℕ, ◌+◌, ◌<◌, ◌≤◌, List, [], ◌∷◌, ◌++◌, map, ◌↔◌, ◌⊎◌, ◌≢◌, ◌≡◌, length, get_or}
 use Rattle.octets.specs.Numbers.{done, buffer_short, already_held, over_bound, not_in_table}
 use Rattle.octets.specs.Buffer.{front}
 use Rattle.catalog.specs.Name.{rounded, name_number}
 use Rattle.catalog.specs.declared.AnswerName.{AnswerName}
-use Rattle.store.specs.Layout.{Form, Sized, answer_most, old_form, entry_size, answers, stream_length, store_length}
+use Rattle.store.specs.Layout.{Form, Sized, narrow, entry_size, answers, stream_length, store_length}
 use Rattle.store.specs.Check.{store_number}
 use Rattle.store.specs.Read.{lookup_number, lookup_part, stream_part}
 use Rattle.store.specs.Answer.{name_of, answer_number}
@@ -33,14 +33,7 @@ module _ (f : Form) where
   pub record Bounded (answer : List ℕ) (day : ℕ) (s : List ℕ) : Type 0 where
     pub fresh : Fresh answer day s
     pub count : answers f s + 1 ≤ f.answers_most
-    pub one : length answer ≤ answer_most
     pub stream : stream_length f s + length answer ≤ f.stream_most
-
-  -- what 8 says
-  pub data Over (answer s : List ℕ) : Type 0 where
-    count : f.answers_most < answers f s + 1 → Over answer s
-    one : answer_most < length answer → Over answer s
-    stream : f.stream_most < stream_length f s + length answer → Over answer s
 
 module _ (f : Form) where
   -- "Appending: 5, 12, 7, 8, 4", with the number of the store's fault for 5: each of them where those before it do not
@@ -56,9 +49,11 @@ module _ (f : Form) where
     pub seven : (answer : List ℕ) (day : ℕ) (s : List ℕ)
         → (append_number f answer day s ≡ already_held)
         ↔ (Judged f answer day s × HeldAs f (rounded (name_of answer day)) s)
-    -- "8: store would pass 64 answers or 60,000 stream bytes": the form's bounds, and that of one answer
+    -- "8: store would pass 64 answers or 60,000 stream bytes": the form's bounds
     pub eight : (answer : List ℕ) (day : ℕ) (s : List ℕ)
-        → (append_number f answer day s ≡ over_bound) ↔ (Fresh f answer day s × Over f answer s)
+        → (append_number f answer day s ≡ over_bound)
+        ↔ (Fresh f answer day s
+        × ((f.answers_most < answers f s + 1) ⊎ (f.stream_most < stream_length f s + length answer)))
     -- "4: .. store buffer too short": for the store, an entry and the answer
     pub four : (answer : List ℕ) (day : ℕ) (s : List ℕ)
         → (append_number f answer day s ≡ buffer_short)
@@ -127,21 +122,21 @@ module _ (f : Form) where
 
 -- an answer that is taken and fills the stream
 pub record Fills (answer : List ℕ) (day : ℕ) (s : List ℕ) : Type 0 where
-  pub taken : append_number old_form answer day s ≡ done
-  pub unbroken : store_number old_form (append_out old_form answer day s) ≡ done
-  pub stream : stream_length old_form (append_out old_form answer day s) ≡ 60000
+  pub taken : append_number narrow answer day s ≡ done
+  pub unbroken : store_number narrow (append_out narrow answer day s) ≡ done
+  pub stream : stream_length narrow (append_out narrow answer day s) ≡ 60000
 
-pub record OldFormClaims : Type 0 where
+pub record NarrowClaims : Type 0 where
   -- "59,998 data bytes .. fill the stream": under any name that 12 allows, in an empty store whose buffer has room
   pub fills : (name : AnswerName) (d s : List ℕ) → name_number name ≡ done → length d ≡ 59998
-      → OfForm old_form s → store_number old_form s ≡ done → answers old_form s ≡ 0
-      → store_length old_form s + entry_size old_form + 60000 ≤ length s
+      → OfForm narrow s → store_number narrow s ≡ done → answers narrow s ≡ 0
+      → store_length narrow s + entry_size narrow + 60000 ≤ length s
       → InBytes (record { answer = 0x76 ∷ name.trep ∷ d; day = name.day })
       → Fills (0x76 ∷ name.trep ∷ d) name.day s
   -- "one byte more is 8": in any store that does not hold that name, whatever room it has
   pub one_more : (name : AnswerName) (d s : List ℕ) → name_number name ≡ done
-      → length d ≡ 59999 → store_number old_form s ≡ done → Missing old_form (rounded name) s
-      → append_number old_form (0x76 ∷ name.trep ∷ d) name.day s ≡ over_bound
+      → length d ≡ 59999 → store_number narrow s ≡ done → Missing narrow (rounded name) s
+      → append_number narrow (0x76 ∷ name.trep ∷ d) name.day s ≡ over_bound
 
 pub record AppendClaims : Type 0 where
   pub numbers : (f : Form) → NumberClaims f
@@ -149,4 +144,4 @@ pub record AppendClaims : Type 0 where
   pub leaves : (f : Form) → Sized f → ReadBackClaims f
   pub days : (f : Form) → Sized f → DayClaims f
   pub day_examples : DayExamples
-  pub old : OldFormClaims
+  pub narrow_form : NarrowClaims

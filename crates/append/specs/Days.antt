@@ -6,7 +6,7 @@ use Rattle.octets.specs.Numbers.{done, not_held, already_held, changed_by, writt
 use Rattle.octets.specs.Buffer.{front}
 use Rattle.catalog.specs.Table.{is_activities}
 use Rattle.catalog.specs.Name.{day_of, first_second, WholeDay, rounded}
-use Rattle.store.specs.Layout.{Form, old_form, answers, name_at}
+use Rattle.store.specs.Layout.{Form, narrow, answers, name_at}
 use Rattle.store.specs.Check.{store_number}
 use Rattle.store.specs.Read.{is_held, lookup_number, lookup_place, lookup_part, held_answer}
 use Rattle.store.specs.Answer.{name_of, answer_number}
@@ -75,10 +75,10 @@ day_store =
     ∷ 0x00 ∷ 0x00 ∷ 0x00 ∷ 0x00 ∷ 0x00 ∷ []
 
 pub record DayExamples : Type 0 where
-  pub result : append_result old_form (0x76 ∷ 0x02 ∷ 0x_aA ∷ []) 86401 (replicate 20 0x00) ≡ written_by done 15
-  pub store : append_out old_form (0x76 ∷ 0x02 ∷ 0x_aA ∷ []) 86401 (replicate 20 0x00) ≡ day_store
+  pub result : append_result narrow (0x76 ∷ 0x02 ∷ 0x_aA ∷ []) 86401 (replicate 20 0x00) ≡ written_by done 15
+  pub store : append_out narrow (0x76 ∷ 0x02 ∷ 0x_aA ∷ []) 86401 (replicate 20 0x00) ≡ day_store
   -- found by the last second of the day, not by the one before its first
-  pub found : lookup_place old_form (record { trep = 0x02; day = 172799 }) day_store
+  pub found : lookup_place narrow (record { trep = 0x02; day = 172799 }) day_store
       ≡ record { number = done; start = 12; len = 3 }
-  pub before : lookup_number old_form (record { trep = 0x02; day = 86399 }) day_store ≡ not_held
-  pub again : append_number old_form (0x76 ∷ 0x02 ∷ []) 86400 day_store ≡ already_held
+  pub before : lookup_number narrow (record { trep = 0x02; day = 86399 }) day_store ≡ not_held
+  pub again : append_number narrow (0x76 ∷ 0x02 ∷ []) 86400 day_store ≡ already_held

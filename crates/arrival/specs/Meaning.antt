@@ -1,5 +1,5 @@
 -- What a string that arrives means to a waiting tool.
-use Rattle.std.specs.Prelude.{ℕ, ◌+◌, Bool, true, false, cond, ◌&&◌, List, [], ◌∷◌, ◌++◌, length, get_or, eqb}
+use Rattle.std.specs.Prelude.{ℕ, ◌+◌, Bool, true, false, cond, ◌&&◌, List, [], ◌∷◌, ◌++◌, length, get_or, eqb, leb}
 use Rattle.octets.specs.Numbers.{changed_by}
 use Rattle.octets.specs.Buffer.{same_bytes}
 use Rattle.frame.specs.declared.Addresses.{Addresses}
@@ -14,7 +14,7 @@ use Rattle.arrival.specs.declared.Arrival.{Arrival}
 use Rattle.arrival.specs.declared.Meaning.TheVariants.{Ignored, FailedWait, Confirmed, WholeAnswer}
 use Rattle.arrival.specs.declared.Meaning.TheVariants.{SubMessageTaken, LastTaken, NoRoomForAnswer}
 use Rattle.arrival.specs.declared.Meaning.TheVariants.{NoRoomForSubMessage, RefusedBy}
-use Rattle.progress.specs.State.{within, is_transfer}
+use Rattle.progress.specs.State.{held_most, is_transfer}
 use Rattle.arrival.specs.Replies.{sid_sent, reply_wanted}
 
 -- "Held bytes are 76, TREP, data": 76 and TREP come before the data of the first frame alone
@@ -25,9 +25,9 @@ header t = cond (eqb t.expected.0 1) (0x76 ∷ t.name.trep ∷ []) []
 abbrev pub new_bytes : ToolState → Received → List ℕ → List ℕ
 new_bytes t x d = header t ++ carried_by x d
 
--- "If they would pass the room or" 16,449,035 (document 02, Req 08)
+-- "If they would pass the room or 60,000"
 unfoldable pub fits : ℕ → ToolState → ℕ → Bool
-fits room_len t n = within room_len (t.held + n)
+fits room_len t n = leb (t.held + n) room_len && leb (t.held + n) held_most
 
 -- a frame's data in a transfer, by what it is of the answer and whether it fits
 unfoldable pub meaning_of : Received → Bool → Meaning

@@ -20,7 +20,7 @@ pub(crate) fn new_length(state: ToolState, received: Received, data: &[u8]) -> u
     header_length(state) + split::join::carried(data, received).len()
 }
 
-// Whether so many new bytes pass neither the room nor 16,449,035.
+// Whether so many new bytes pass neither the room nor 60,000.
 pub(crate) fn fits_in(state: ToolState, new: usize, room_len: usize) -> bool
     ensures { result ≡ fits room_len state new }
 {

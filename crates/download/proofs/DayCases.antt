@@ -12,7 +12,7 @@ use Rattle.catalog.proofs.DayLaws.{rounded-named, one-trep}
 use Rattle.catalog.specs.declared.AnswerName.{AnswerName}
 use Rattle.split.specs.Codes.{sub}
 use Rattle.split.specs.Split.{is_split}
-use Rattle.store.specs.Layout.{form_of}
+use Rattle.store.specs.Layout.{narrow}
 use Rattle.store.specs.Read.{lookup_number, lookup_place, lookup_part}
 use Rattle.store.proofs.Days.{day-claims as store-days}
 use Rattle.append.specs.Days.{day_store}
@@ -69,13 +69,13 @@ module _ (store : List ℕ) (u : UnitState) (room : ℕ) (c : Called store u roo
   unfolding transfer_data frame_sent
   good name = asked-good lab name 1
 
-  keeps : (name : AnswerName) → Asked u name → is_granted u.phase ≡ true → lookup_number (form_of store) name store ≡ 0
-      → is_split (length (drop 2 (lookup_part (form_of store) name store))) ≡ true → (unit_state lab store room u (request name)).phase ≡ Sending name (sub 1)
+  keeps : (name : AnswerName) → Asked u name → is_granted u.phase ≡ true → lookup_number narrow name store ≡ 0
+      → is_split (length (drop 2 (lookup_part narrow name store))) ≡ true → (unit_state lab store room u (request name)).phase ≡ Sending name (sub 1)
   unfolding answer_from state_after
   keeps name q g z s =
       let held = held_place store name z in
-      let n : (lookup_place (form_of store) name store).len - 2 ≡ length (drop 2 (lookup_part (form_of store) name store)) =
-      rw held.len (sym (length-drop 2 (lookup_part (form_of store) name store))) in
+      let n : (lookup_place narrow name store).len - 2 ≡ length (drop 2 (lookup_part narrow name store)) =
+      rw held.len (sym (length-drop 2 (lookup_part narrow name store))) in
       ap (λ (v : UnitState). v.phase)
       (next store u room c (request name) _ (good name) (transfer-reaction store u room c name q (granted-open u.phase g)))
       ∙ rw (g, held.number, n, s)
@@ -90,13 +90,13 @@ module _ (store : List ℕ) (u : UnitState) (room : ℕ) (c : Called store u roo
           four_bytes = four;
         }
 
-    answer-alike : rounded_reaction (unless (is_granted u.phase) (Negative 0x36 0x22) (answer_from name (sub 1) (lookup_place (form_of store) name store)))
-        ≡ rounded_reaction (unless (is_granted u.phase) (Negative 0x36 0x22) (answer_from other (sub 1) (lookup_place (form_of store) other store)))
+    answer-alike : rounded_reaction (unless (is_granted u.phase) (Negative 0x36 0x22) (answer_from name (sub 1) (lookup_place narrow name store)))
+        ≡ rounded_reaction (unless (is_granted u.phase) (Negative 0x36 0x22) (answer_from other (sub 1) (lookup_place narrow other store)))
     unfolding answer_from
     answer-alike =
-        rw ((store-days (form_of store)).alike name other store e)
+        rw ((store-days narrow).alike name other store e)
         (both (is_granted u.phase) _ _ _ _
-        (both (eqb (lookup_place (form_of store) other store).number 0) _ _ _ _ (sent-alike name other (sub 1) (lookup_place (form_of store) other store) e) refl)
+        (both (eqb (lookup_place narrow other store).number 0) _ _ _ _ (sent-alike name other (sub 1) (lookup_place narrow other store) e) refl)
         refl)
 
     alike : rounded_reaction (reaction_to lab store u (request name)) ≡ rounded_reaction (reaction_to lab store u (request other))

@@ -20,7 +20,7 @@ use Rattle.frame.proofs.Theorems.{write-then-check}
 use Rattle.catalog.specs.Table.{is_activities}
 use Rattle.catalog.specs.declared.AnswerName.{AnswerName}
 use Rattle.split.specs.Codes.{sub, acknowledge_of}
-use Rattle.split.specs.Split.{data_most, messages_most, count_of, carries}
+use Rattle.split.specs.Split.{count_of, carries}
 use Rattle.split.proofs.SplitLaws.{carries-split}
 use Rattle.split.proofs.Theorems.{sub-good, sub-reads-back, count-one, count-split, count-some, count_most_lem, number-reads-back}
 use Rattle.progress.specs.declared.Request.TheVariants as requests
@@ -74,7 +74,7 @@ module _ (g : Premises) where
   pub long : length g.answer ≡ length (answer_data g) + 2
   long = ap length shape ∙ (omega arith)
 
-  pub data-most : length (answer_data g) ≤ data_most
+  pub data-most : length (answer_data g) ≤ 59998
   data-most = omega (arith, (held g.store g.name g.answer g.holds).most, long)
 
   pub fits : length (answer_data g) + 2 ≤ length g.room
@@ -85,11 +85,11 @@ module _ (g : Premises) where
   splits h =
       by_test (ltb 252 (length (answer_data g))) (λ e. ltb-true _ _ e) (λ e. absurd (omega (arith, count-one (length (answer_data g)) (ltb-false _ _ e))))
 
-  -- every answer has a frame, and at most 65,534
+  -- every answer has a frame, and at most 240
   pub some-frame : 1 ≤ count_of (length (answer_data g))
   some-frame = count-some (length (answer_data g))
 
-  pub frames-most : count_of (length (answer_data g)) ≤ messages_most
+  pub frames-most : count_of (length (answer_data g)) ≤ 240
   frames-most = count_most_lem (length (answer_data g)) data-most
 
   -- Held bytes

@@ -11,6 +11,5 @@ pub mod Witness
 pub mod TradeCases
 pub mod DayCases
 pub mod AddressCases
-pub mod WideCases
 pub mod Consequences
 pub mod Needed

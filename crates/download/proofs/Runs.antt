@@ -10,7 +10,7 @@ use Rattle.catalog.specs.Name.{first_second, day_named, name_number, day_stored,
 use Rattle.split.specs.Split.{count_of, carries, sub_field, sub_frame}
 use Rattle.split.specs.Join.{is_answer, received_as, carried_by}
 use Rattle.octets.specs.Search.{first_from}
-use Rattle.store.specs.Layout.{is_wide, form_by, header_size, entry_size, entries_size, name_at}
+use Rattle.store.specs.Layout.{header_size, entry_size, entries_size, name_at}
 use Rattle.store.specs.Check.{header_fits, counts_fit, filled_to, place_right, places_right, answer_right, answers_right, repeats, names_differ}
 use Rattle.store.specs.Check.{store_fault, store_number}
 use Rattle.store.specs.Read.{lookup_number, lookup_place, lookup_part}
@@ -33,8 +33,8 @@ use Rattle.download.specs.CableEnds.{ToolGiven}
 
 -- a lookup in a store
 unfoldable pub lookups : Unit {0}
-unfolding number_at first_from is_wide form_by header_size entry_size entries_size name_at header_fits counts_fit filled_to place_right places_right answer_right
-    answers_right repeats names_differ store_fault store_number lookup_number lookup_place lookup_part known_to listed is_activities first_second day_named name_number
+unfolding number_at first_from header_size entry_size entries_size name_at header_fits counts_fit filled_to place_right places_right answer_right answers_right
+    repeats names_differ store_fault store_number lookup_number lookup_place lookup_part known_to listed is_activities first_second day_named name_number
     day_stored rounded same_answer
 lookups = tt
 

@@ -21,8 +21,8 @@ use Rattle.catalog.specs.Name.{day_named}
 use Rattle.catalog.specs.declared.AnswerName.{AnswerName}
 use Rattle.split.specs.declared.SubMessage.{SubMessage}
 use Rattle.split.specs.Codes.{sub, acknowledge_of}
-use Rattle.split.specs.Split.{messages_most, count_of}
-use Rattle.store.specs.Layout.{form_of}
+use Rattle.split.specs.Split.{count_of}
+use Rattle.store.specs.Layout.{narrow}
 use Rattle.store.specs.Check.{store_number}
 use Rattle.store.specs.Read.{lookup_number, lookup_place}
 use Rattle.store.proofs.ReadLaws.{number-of-place}
@@ -53,11 +53,11 @@ ranges store u h =
     record { kind = and_left _ _ h; rate = and_left _ _ r; phase = and_right (leb u.pending 5) _ p }
 
 -- an answer that is being sent is held
-pub sending-held : (store : List ℕ) (name : AnswerName) (last : SubMessage) → phase_possible (lookup_place (form_of store) name store) (Sending name last) ≡ true
-    → lookup_number (form_of store) name store ≡ 0
+pub sending-held : (store : List ℕ) (name : AnswerName) (last : SubMessage) → phase_possible (lookup_place narrow name store) (Sending name last) ≡ true
+    → lookup_number narrow name store ≡ 0
 unfolding phase_possible sendable
 sending-held store name last h =
-    sym (number-of-place (form_of store) store name (lookup_place (form_of store) name store) refl) ∙ eqb-true _ _ (and_left (eqb (lookup_place (form_of store) name store).number 0) _ h)
+    sym (number-of-place narrow store name (lookup_place narrow name store) refl) ∙ eqb-true _ _ (and_left (eqb (lookup_place narrow name store).number 0) _ h)
 
 -- Reading a request back
 
@@ -119,18 +119,12 @@ transfer-asked kind phase place name k d f = go (is_activities name.trep) refl
     go true e = rw (name_back name d f, e, k)
     go false e = rw (name_back name d f, e, k)
 
--- "83 76 and a code", the one that acknowledges number n: its code is n + 1, and not stop
-module _ (place : Place) (name : AnswerName) (n : ℕ) (h : suc n ≤ messages_most) where
-  code_is : number_at 2 2 (acknowledgement (acknowledge_of (sub n))) ≡ suc n
-  code_is = code-back n (omega arith)
-
-  not-stop : eqb (suc n) 0x_fFFF ≡ false
-  not-stop = ne_eqb (suc n) 0x_fFFF (λ z. omega arith)
-
+-- "83 76 and a code", the one that acknowledges number n: its code is n + 1
+module _ (place : Place) (name : AnswerName) (n : ℕ) (h : suc n < 65536) where
   -- n + 1 was sent last: it is sent again
   pub sent-again : on_acknowledge (Sending name (sub (suc n))) place (acknowledgement (acknowledge_of (sub n))) ≡ AnswerSent name (sub (suc n)) place
   unfolding on_acknowledge on_sending on_code acknowledgement
-  sent-again = rw (code_is, not-stop, eq-eqb (suc n) (suc n) refl)
+  sent-again = rw (code-back n h, eq-eqb (suc n) (suc n) refl)
 
   -- n was sent last: the next one is sent, or 12 if there is none
   pub sent-next : suc n ≤ count_of (place.len - 2)
@@ -138,22 +132,13 @@ module _ (place : Place) (name : AnswerName) (n : ℕ) (h : suc n ≤ messages_m
   unfolding on_acknowledge on_sending on_code acknowledgement
   sent-next c =
       let next : (n + 1) % 65536 ≡ suc n = omega arith in
-      rw (
-        code_is,
-        not-stop,
-        ne_eqb (suc n) n (λ z. omega arith),
-        next,
-        eq-eqb (suc n) (suc n) refl,
-        add-one n,
-        le-leb (suc n) (count_of (place.len - 2)) c,
-      )
+      rw (code-back n h, ne_eqb (suc n) n (λ z. omega arith), next, eq-eqb (suc n) (suc n) refl, add-one n, le-leb (suc n) (count_of (place.len - 2)) c)
 
   pub past-last : count_of (place.len - 2) ≤ n → on_acknowledge (Sending name (sub n)) place (acknowledgement (acknowledge_of (sub n))) ≡ Negative 0x83 0x12
   unfolding on_acknowledge on_sending on_code acknowledgement
   past-last c =
       rw (
-        code_is,
-        not-stop,
+        code-back n h,
         ne_eqb (suc n) n (λ z. omega arith),
         eq-eqb (suc n) ((n + 1) % 65536) (omega arith),
         add-one n,
@@ -164,7 +149,7 @@ module _ (place : Place) (name : AnswerName) (n : ℕ) (h : suc n ≤ messages_m
 
 module _ (a : Addresses) (store : List ℕ) (u : UnitState) where
   -- "Unit call: 5, 11, 4 .., then frame numbers": none of them
-  pub not-refused : (room : ℕ) (b : List ℕ) → store_number (form_of store) store ≡ 0 → possible store u ≡ true → leb 260 room ≡ true → judged a ends.Unit b ≡ 0
+  pub not-refused : (room : ℕ) (b : List ℕ) → store_number narrow store ≡ 0 → possible store u ≡ true → leb 260 room ≡ true → judged a ends.Unit b ≡ 0
       → unit_number a store room u b ≡ 0
   unfolding unit_number number_before
   not-refused room b s p l j = rw (s, p, l, j)

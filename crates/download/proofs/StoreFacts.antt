@@ -7,26 +7,26 @@ use Rattle.octets.specs.Buffer.{part_at}
 use Rattle.octets.specs.declared.Place.{Place}
 use Rattle.catalog.specs.Name.{rounded}
 use Rattle.catalog.specs.declared.AnswerName.{AnswerName}
-use Rattle.store.specs.Layout.{answer_most, form_of}
+use Rattle.store.specs.Layout.{narrow}
 use Rattle.store.specs.Read.{position, lookup_number, lookup_place, lookup_part}
 use Rattle.store.proofs.StoreLaws.{found, answer-length}
 use Rattle.download.specs.Demand.{Holds}
 
 pub record Held (store : List ℕ) (name : AnswerName) (answer : List ℕ) : Type 0 where
-  pub number : (lookup_place (form_of store) name store).number ≡ 0
-  pub len : (lookup_place (form_of store) name store).len ≡ length answer
-  pub part : part_at (lookup_place (form_of store) name store).start (lookup_place (form_of store) name store).len store ≡ answer
+  pub number : (lookup_place narrow name store).number ≡ 0
+  pub len : (lookup_place narrow name store).len ≡ length answer
+  pub part : part_at (lookup_place narrow name store).start (lookup_place narrow name store).len store ≡ answer
   -- "each 76, listed TREP, data"
   pub shape : answer ≡ 0x76 ∷ name.trep ∷ drop 2 answer
-  pub most : length answer ≤ answer_most
+  pub most : length answer ≤ 60000
 
-pub held_place : (s : List ℕ) (name : AnswerName) → lookup_number (form_of s) name s ≡ 0 → Held s name (lookup_part (form_of s) name s)
+pub held_place : (s : List ℕ) (name : AnswerName) → lookup_number narrow name s ≡ 0 → Held s name (lookup_part narrow name s)
 unfolding lookup_part
 held_place s name z =
-    let f = found (form_of s) name s z in
+    let f = found narrow name s z in
     record {
       number = ap (λ (p : Place). p.number) f.place;
-      len = ap (λ (p : Place). p.len) f.place ∙ sym (ap length f.part ∙ answer-length (form_of s) s f.whole (position (form_of s) (rounded name) s) f.below);
+      len = ap (λ (p : Place). p.len) f.place ∙ sym (ap length f.part ∙ answer-length narrow s f.whole (position narrow (rounded name) s) f.below);
       part = refl;
       shape = f.begins;
       most = f.most;

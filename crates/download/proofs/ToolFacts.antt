@@ -30,7 +30,7 @@ use Rattle.progress.specs.declared.Outcome.TheVariants.{Waiting, Done, NoAnswer}
 use Rattle.progress.specs.declared.ToolState.{ToolState}
 use Rattle.arrival.specs.declared.Meaning.{Meaning}
 use Rattle.arrival.specs.declared.Meaning.TheVariants.{FailedWait, WholeAnswer, SubMessageTaken, LastTaken}
-use Rattle.progress.specs.State.{held_most, held_right, transfer_possible, possible}
+use Rattle.progress.specs.State.{held_right, transfer_possible, possible}
 use Rattle.requests.specs.Sent.{frame_sent}
 use Rattle.arrival.specs.Meaning.{header, new_bytes, fits, meaning_of, transfer_meaning, is_refusal, data_meaning, arrival_meaning, arrival_bytes}
 use Rattle.arrival.specs.Meaning.{takes as takes_bytes}
@@ -165,7 +165,7 @@ module _ (g : Premises) where
         name-allowed g,
         held-right p h,
         le-leb (length (held_with g p)) (length g.room) (omega (arith, frames.fits g)),
-        le-leb (length (held_with g p)) held_most (omega (arith, frames.data-most g)),
+        le-leb (length (held_with g p)) 60000 (omega (arith, frames.data-most g)),
       )
 
   -- the bytes that frame p + 1 adds
@@ -238,7 +238,7 @@ module _ (g : Premises) where
             rw (
               grown,
               le-leb (length (held_with g (suc p))) (length g.room) (omega (arith, frames.fits g)),
-              le-leb (length (held_with g (suc p))) held_most (omega (arith, frames.data-most g)),
+              le-leb (length (held_with g (suc p))) 60000 (omega (arith, frames.data-most g)),
             )
 
         put-behind : put (length (held_with g p)) new (front (held_with g p) g.room) ≡ front (held_with g (suc p)) g.room

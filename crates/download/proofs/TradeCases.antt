@@ -13,10 +13,10 @@ use Rattle.frame.specs.declared.End.TheVariants as ends
 use Rattle.frame.proofs.Theorems.{write-then-check}
 use Rattle.catalog.specs.declared.AnswerName.{AnswerName}
 use Rattle.split.specs.Codes.{sub, acknowledge_of}
-use Rattle.split.specs.Split.{messages_most, count_of, sub_field, sub_frame}
+use Rattle.split.specs.Split.{count_of, sub_field, sub_frame}
 use Rattle.split.specs.Join.{frames_from}
 use Rattle.split.proofs.Theorems.{split-252, split-253, split-501, split-502, count_most_lem}
-use Rattle.store.specs.Layout.{form_of}
+use Rattle.store.specs.Layout.{narrow}
 use Rattle.store.specs.Read.{lookup_number, lookup_place, lookup_part}
 use Rattle.store.proofs.ReadLaws.{number-of-place}
 use Rattle.store.specs.Answer.{answer_number}
@@ -78,7 +78,7 @@ w11 : (name : AnswerName) → frame_sent lab requests.Transfer name 2 ≡ 0x80 �
 unfolding acknowledgement transfer_data frame_sent closed frame_of
 w11 name = refl
 
-w12 : append_out (form_of (replicate 16 0x00)) (0x76 ∷ 0x00 ∷ 0x02 ∷ 0x02 ∷ []) 0 (replicate 16 0x00) ≡ store12
+w12 : append_out narrow (0x76 ∷ 0x00 ∷ 0x02 ∷ 0x02 ∷ []) 0 (replicate 16 0x00) ≡ store12
 unfolding lookups answer_number room_number append_number with_answer append_out front
 w12 = refl
 
@@ -123,7 +123,7 @@ module _ (store : List ℕ) (u : UnitState) (room : ℕ) (c : Called store u roo
   -- a transfer request, and what is left to check: phase and data held; and its reply
   pub transfer-reaction : (name : AnswerName) → Asked u name → is_closed u.phase ≡ false
       → reaction_to lab store u (frame_of lab ends.Unit (transfer_request name))
-      ≡ unless (is_granted u.phase) (Negative 0x36 0x22) (answer_from name (sub 1) (lookup_place (form_of store) name store))
+      ≡ unless (is_granted u.phase) (Negative 0x36 0x22) (answer_from name (sub 1) (lookup_place narrow name store))
   unfolding transfer_data
   transfer-reaction name q o =
       heard lab store u (transfer_request name) (asked-some name 1) (asked-most name 1) o
@@ -132,17 +132,17 @@ module _ (store : List ℕ) (u : UnitState) (room : ℕ) (c : Called store u roo
       ∙ rw (asked-first name q.named q.four_bytes)
 
   transfer-reply : (name : AnswerName) (r : Reaction) → Asked u name → is_closed u.phase ≡ false
-      → unless (is_granted u.phase) (Negative 0x36 0x22) (answer_from name (sub 1) (lookup_place (form_of store) name store)) ≡ r
+      → unless (is_granted u.phase) (Negative 0x36 0x22) (answer_from name (sub 1) (lookup_place narrow name store)) ≡ r
       → unit_reply lab store room u (frame_of lab ends.Unit (transfer_request name)) ≡ reply_to lab (reply_data store r)
   unfolding transfer_data frame_sent
   transfer-reply name r q o e =
       reply store u room c (frame_of lab ends.Unit (transfer_request name)) r (asked-good lab name 1) (transfer-reaction name q o ∙ e)
 
-  w4 : (name : AnswerName) → Asked u name → is_granted u.phase ≡ true → lookup_number (form_of store) name store ≡ 6
+  w4 : (name : AnswerName) → Asked u name → is_granted u.phase ≡ true → lookup_number narrow name store ≡ 6
       → unit_reply lab store room u (frame_of lab ends.Unit (transfer_request name)) ≡ 0x80 ∷ 0x_f0 ∷ 0x_eE ∷ 0x03 ∷ 0x7_f ∷ 0x36 ∷ 0x_fA ∷ 0x10 ∷ []
   unfolding answer_from closed frame_of reply_data reply_to
   w4 name q g n =
-      let z : (lookup_place (form_of store) name store).number ≡ 6 = number-of-place (form_of store) store name (lookup_place (form_of store) name store) refl ∙ n in
+      let z : (lookup_place narrow name store).number ≡ 6 = number-of-place narrow store name (lookup_place narrow name store) refl ∙ n in
       transfer-reply name (Negative 0x36 0x_fA) q (granted-open u.phase g) (rw (g, z))
 
   w5 : (name : AnswerName) → Asked u name → u.phase ≡ Session
@@ -150,18 +150,20 @@ module _ (store : List ℕ) (u : UnitState) (room : ℕ) (c : Called store u roo
   unfolding closed frame_of reply_data reply_to
   w5 name q p = transfer-reply name (Negative 0x36 0x22) q (rw p) (rw p)
 
-  w6 : (name : AnswerName) (last : ℕ) → last < messages_most → u.phase ≡ Sending name (sub last) → last ≡ count_of (length (drop 2 (lookup_part (form_of store) name store)))
+  w6 : (name : AnswerName) (last : ℕ) → u.phase ≡ Sending name (sub last) → last ≡ count_of (length (drop 2 (lookup_part narrow name store)))
       → unit_reply lab store room u (frame_of lab ends.Unit (acknowledgement (acknowledge_of (sub last)))) ≡ 0x80 ∷ 0x_f0 ∷ 0x_eE ∷ 0x03 ∷ 0x7_f ∷ 0x83
       ∷ 0x12 ∷ 0x75 ∷ []
   unfolding closed frame_of reply_data reply_to acknowledgement on_data
-  w6 name last b p e =
+  w6 name last p e =
       let z = sending-held store name (sub last) (rw p at (ranges store u c.possible).phase) in
       let t = held_place store name z in
-      let d : List ℕ = lookup_part (form_of store) name store in
-      let n : (lookup_place (form_of store) name store).len - 2 ≡ length (drop 2 d) = rw t.len (sym (length-drop 2 d)) in
+      let d : List ℕ = lookup_part narrow name store in
+      let n : (lookup_place narrow name store).len - 2 ≡ length (drop 2 d) = rw t.len (sym (length-drop 2 d)) in
+      let m : length (drop 2 d) ≤ 59998 = omega (arith, length-drop 2 d, t.most) in
+      let l : suc last < 65536 = omega (arith, count_most_lem (length (drop 2 d)) m) in
       let a : List ℕ = acknowledgement (acknowledge_of (sub last)) in
       reply store u room c (frame_of lab ends.Unit a) (Negative 0x83 0x12) (write-then-check lab ends.Unit a (omega arith) (omega arith))
-      (heard lab store u a (omega arith) (omega arith) (rw p) ∙ rw p (past-last (lookup_place (form_of store) name store) name last b (omega (arith, ap count_of n))))
+      (heard lab store u a (omega arith) (omega arith) (rw p) ∙ rw p (past-last (lookup_place narrow name store) name last l (omega (arith, ap count_of n))))
 
 pub trade-cases : TradeCases
 trade-cases =

@@ -16,7 +16,7 @@ use Rattle.catalog.specs.declared.AnswerName.{AnswerName}
 use Rattle.catalog.proofs.NameLaws.{allowed}
 use Rattle.split.specs.Codes.{sub, acknowledge_of}
 use Rattle.split.specs.Split.{is_split, count_of, sub_field, sub_frame}
-use Rattle.store.specs.Layout.{form_of}
+use Rattle.store.specs.Layout.{narrow}
 use Rattle.store.specs.Check.{store_number}
 use Rattle.store.specs.Read.{lookup_number, lookup_place, lookup_part}
 use Rattle.octets.proofs.OrderLaws.{or-zero}
@@ -54,11 +54,11 @@ module _ (a : Addresses) (c : UnitGiven) (u : UnitState) where
   called b r z e = rw (z, e)
 
   -- refused with 4, or by the frame rules
-  pub called-short : (b : List ℕ) → store_number (form_of c.store) c.store ≡ 0 → possible c.store u ≡ true → leb 260 c.reply ≡ false → unit_call a c u b ≡ silent u
+  pub called-short : (b : List ℕ) → store_number narrow c.store ≡ 0 → possible c.store u ≡ true → leb 260 c.reply ≡ false → unit_call a c u b ≡ silent u
   unfolding unit_result unit_state unit_reply unit_number number_before
   called-short b s p l = rw (s, p, l)
 
-  called-refused : (b : List ℕ) → store_number (form_of c.store) c.store ≡ 0 → possible c.store u ≡ true → leb 260 c.reply ≡ true
+  called-refused : (b : List ℕ) → store_number narrow c.store ≡ 0 → possible c.store u ≡ true → leb 260 c.reply ≡ true
       → eqb (judged a ends.Unit b) 0 ≡ false → unit_call a c u b ≡ silent u
   unfolding unit_result unit_state unit_reply unit_number number_before
   called-refused b s p l j = rw (s, p, l, j)
@@ -67,13 +67,13 @@ module _ (a : Addresses) (c : UnitGiven) (u : UnitState) where
   sent : (name : AnswerName) (k : ℕ) (answer : List ℕ) → Held c.store name answer
       → ◌≡◌ {A = Result (List ℕ) UnitState}
       (record {
-        next = state_after u (AnswerSent name (sub k) (lookup_place (form_of c.store) name c.store));
-        out = strings (reply_to a (reply_data c.store (AnswerSent name (sub k) (lookup_place (form_of c.store) name c.store))));
+        next = state_after u (AnswerSent name (sub k) (lookup_place narrow name c.store));
+        out = strings (reply_to a (reply_data c.store (AnswerSent name (sub k) (lookup_place narrow name c.store))));
       })
       (sends (with_phase u (cond (is_split (length (drop 2 answer))) (Sending name (sub k)) Granted)) (sub_frame a name.trep k (drop 2 answer)))
   unfolding state_after reply_data reply_to sub_field sub_frame
   sent name k answer h =
-      let n : (lookup_place (form_of c.store) name c.store).len - 2 ≡ length (drop 2 answer) = rw h.len (sym (length-drop 2 answer)) in
+      let n : (lookup_place narrow name c.store).len - 2 ≡ length (drop 2 answer) = rw h.len (sym (length-drop 2 answer)) in
       rw (h.part, n, strings-frame a ends.Tool (sub_field name.trep k (drop 2 answer)))
 
 -- The unit's state through the transfer
@@ -88,10 +88,10 @@ sending-possible before now Session s h = refl
 sending-possible before now Granted s h = refl
 sending-possible before now (Sending name last) s h =
     let b = held_place before name (sending-held before name last h) in
-    let n = held now name (lookup_part (form_of before) name before) s in
-    let t : (is_split ((lookup_place (form_of before) name before).len - 2) &&
-    (leb 1 last.0 && leb last.0 (count_of ((lookup_place (form_of before) name before).len - 2))))
-    ≡ true = and_right (eqb (lookup_place (form_of before) name before).number 0) _ h in
+    let n = held now name (lookup_part narrow name before) s in
+    let t : (is_split ((lookup_place narrow name before).len - 2) &&
+    (leb 1 last.0 && leb last.0 (count_of ((lookup_place narrow name before).len - 2))))
+    ≡ true = and_right (eqb (lookup_place narrow name before).number 0) _ h in
     rw (n.number, n.len) (rw b.len at t)
 
 -- and it is unchanged in the same store
@@ -140,7 +140,7 @@ module _ (g : Premises) where
     unfolding phase_possible sendable
     sent-possible k t h false e = refl
     sent-possible k t h true e =
-        let n : (lookup_place (form_of s) g.name s).len - 2 ≡ length (answer_data g) = rw t.len (sym (length-drop 2 g.answer)) in
+        let n : (lookup_place narrow g.name s).len - 2 ≡ length (answer_data g) = rw t.len (sym (length-drop 2 g.answer)) in
         rw (t.number, n, e, le-leb 1 (suc k) (omega arith), le-leb (suc k) (count_of (length (answer_data g))) h)
 
     possible-after : (n : ℕ) → StorePremise g (unit_after n) s → n ≤ count_of (length (answer_data g)) → possible s (unit_after n) ≡ true
@@ -154,9 +154,9 @@ module _ (g : Premises) where
 
   module _ (c : UnitGiven) where
     module _ (a : Addresses) (n : ℕ) (o : StorePremise g (unit_after n) c.store) (h : n ≤ count_of (length (answer_data g))) where
-      whole : store_number (form_of c.store) c.store ≡ 0
+      whole : store_number narrow c.store ≡ 0
       unfolding lookup_number
-      whole = (or-zero (store_number (form_of c.store) c.store) _ o.this.held).first
+      whole = (or-zero (store_number narrow c.store) _ o.this.held).first
 
       -- without room for a reply nothing changes
       pub lacks-room : (b : List ℕ) → leb 260 c.reply ≡ false → unit_call a c (unit_after n) b ≡ silent (unit_after n)
@@ -170,7 +170,7 @@ module _ (g : Premises) where
       -- a request at which the answer is sent
       asked : (k : ℕ) → leb 260 c.reply ≡ true
           → on_data (place_sent c.store (unit_after n).phase) (place_asked c.store (transfer_data g.name (suc k))) (unit_after n)
-          (transfer_data g.name (suc k)) ≡ AnswerSent g.name (sub (suc k)) (lookup_place (form_of c.store) g.name c.store)
+          (transfer_data g.name (suc k)) ≡ AnswerSent g.name (sub (suc k)) (lookup_place narrow g.name c.store)
           → unit_call a c (unit_after n) (frame_sent a requests.Transfer g.name (suc k)) ≡ sends (unit_after (suc k)) ((transfer a g).frame (suc k))
       unfolding frame_sent
       asked k l e =
@@ -198,21 +198,21 @@ module _ (g : Premises) where
         t : Held c.store g.name g.answer
         t = held c.store g.name g.answer o.this
 
-        len : (lookup_place (form_of c.store) g.name c.store).len - 2 ≡ length (answer_data g)
+        len : (lookup_place narrow g.name c.store).len - 2 ≡ length (answer_data g)
         len = rw t.len (sym (length-drop 2 g.answer))
 
         is-split : is_split (length (answer_data g)) ≡ true
         is-split = lt-ltb 252 (length (answer_data g)) (splits g (omega arith))
 
         again : on_acknowledge (unit_after (suc n)).phase (place_sent c.store (unit_after (suc n)).phase)
-            (acknowledgement (acknowledge_of (sub (suc k)))) ≡ AnswerSent g.name (sub (suc (suc k))) (lookup_place (form_of c.store) g.name c.store)
+            (acknowledgement (acknowledge_of (sub (suc k)))) ≡ AnswerSent g.name (sub (suc (suc k))) (lookup_place narrow g.name c.store)
         again =
             rw is-split
             (by_test (eqb (suc n) (suc (suc k)))
-            (λ e. rw (eqb-true (suc n) (suc (suc k)) e) (sent-again (lookup_place (form_of c.store) g.name c.store) g.name (suc k) (omega (arith, frames-most g))))
+            (λ e. rw (eqb-true (suc n) (suc (suc k)) e) (sent-again (lookup_place narrow g.name c.store) g.name (suc k) (omega (arith, frames-most g))))
             (λ e.
             let z : n ≡ k = omega (arith, eqb-false (suc n) (suc (suc k)) e) in
-            rw z (sent-next (lookup_place (form_of c.store) g.name c.store) g.name (suc k) (omega (arith, frames-most g)) (rw len h))))
+            rw z (sent-next (lookup_place narrow g.name c.store) g.name (suc k) (omega (arith, frames-most g)) (rw len h))))
 
   -- with the store of the begin it stays possible
   this-store : (n : ℕ) → StorePremise g (unit_after n) g.store

@@ -12,10 +12,9 @@ use Rattle.catalog.specs.Name.{name_number}
 use Rattle.catalog.specs.declared.AnswerName.{AnswerName}
 use Rattle.split.specs.Codes.{sub}
 use Rattle.split.specs.Split.{count_of}
-use Rattle.store.specs.Layout.{form_of}
+use Rattle.store.specs.Layout.{narrow}
 use Rattle.store.specs.Read.{lookup_part}
 use Rattle.append.specs.Days.{day_store}
-use Rattle.append.specs.Forms.{wide_store}
 use Rattle.services.specs.declared.UnitState.{UnitState}
 use Rattle.services.specs.declared.Phase.{Phase}
 use Rattle.services.specs.declared.Phase.TheVariants.{Granted, Sending}
@@ -58,7 +57,7 @@ unfolding lookups
 holds-interface = record { held = refl; bytes = refl }
 
 -- the premise at a call while 31 is sent: its answer is in the store as at the begin
-sending-overview : Holds store overview (lookup_part (form_of store) overview store)
+sending-overview : Holds store overview (lookup_part narrow overview store)
 unfolding lookups
 sending-overview = record { held = refl; bytes = refl }
 
@@ -70,7 +69,7 @@ other-overview : Holds other_store overview (0x76 ∷ 0x31 ∷ replicate 502 0x0
 unfolding lookups
 other-overview = record { held = refl; bytes = refl }
 
-other-sending : Holds other_store overview (lookup_part (form_of store) overview store)
+other-sending : Holds other_store overview (lookup_part narrow overview store)
 unfolding lookups
 other-sending = record { held = refl; bytes = refl }
 
@@ -386,50 +385,3 @@ remote-agrees : AgreesClean remote one_frame (run cable_ends (transfer remote on
 remote-agrees =
     (demand3 remote (λ e. omega arith) one_frame remote_exchange).clean
     (((refl, record { this = holds-interface; sending = sending-overview }), refl), ((refl, omega arith), tt))
-
--- the same answer in a wide store; at its call the unit is handed an old one with it
-holds-wide : Holds wide_store interface (0x76 ∷ 0x00 ∷ 0x02 ∷ 0x02 ∷ [])
-unfolding lookups
-holds-wide = record { held = refl; bytes = refl }
-
-possible-wide : possible wide_store (unit Granted) ≡ true
-unfolding possible possible_at phase_possible
-possible-wide = refl
-
-abbrev from_wide : Premises
-from_wide =
-    record {
-      name = interface;
-      answer = 0x76 ∷ 0x00 ∷ 0x02 ∷ 0x02 ∷ [];
-      unit = unit Granted;
-      store = wide_store;
-      tool = fresh_tool;
-      room = replicate 4 0x00;
-      output = 260;
-      accepted = accepted interface named-interface;
-      four_bytes = omega arith;
-      possible = possible-wide;
-      granted = refl;
-      known = known-interface;
-      holds = holds-wide;
-      suffices = omega arith;
-    }
-
-abbrev wide_exchange : List ℕ → List (Event cable_ends)
-wide_exchange s = arrives_at_unit (record { addresses = lab; store = s; reply = 260 }) ∷ arrives_at_tool (lent 260) ∷ []
-
-wide-run : (run cable_ends (transfer lab from_wide) (wide_exchange wide_store) (start cable_ends (transfer lab from_wide))).system.tool
-    ≡ record {
-      state = record { request = Transfer; outcome = Done; name = interface; sendings = 1; expected = sub 1; held = 4 };
-      room = 0x76 ∷ 0x00 ∷ 0x02 ∷ 0x02 ∷ [];
-    }
-unfolding calls
-wide-run = refl
-
-wide-agrees : (s : List ℕ) → Holds s interface (0x76 ∷ 0x00 ∷ 0x02 ∷ 0x02 ∷ [])
-    → AgreesClean lab from_wide (run cable_ends (transfer lab from_wide) (wide_exchange s) (start cable_ends (transfer lab from_wide)))
-wide-agrees s holds = (demand3-lab from_wide (wide_exchange s)).clean (((refl, record { this = holds; sending = tt }), refl), ((refl, omega arith), tt))
-
-either-form : (AgreesClean lab from_wide (run cable_ends (transfer lab from_wide) (wide_exchange wide_store) (start cable_ends (transfer lab from_wide))))
-    × (AgreesClean lab from_wide (run cable_ends (transfer lab from_wide) (wide_exchange store) (start cable_ends (transfer lab from_wide))))
-either-form = (wide-agrees wide_store holds-wide, wide-agrees store holds-interface)

@@ -6,7 +6,7 @@ use Rattle.catalog.specs.Name.{rounded}
 use Rattle.catalog.specs.declared.AnswerName.{AnswerName}
 use Rattle.split.specs.Codes.{sub}
 use Rattle.split.specs.Split.{is_split}
-use Rattle.store.specs.Layout.{form_of}
+use Rattle.store.specs.Layout.{narrow}
 use Rattle.store.specs.Read.{lookup_number, lookup_part}
 use Rattle.append.specs.Days.{day_store}
 use Rattle.services.specs.declared.UnitState.{UnitState}
@@ -38,8 +38,8 @@ pub record DayCases : Type 0 where
       → begin_sent lab t Transfer day_asked out_len ≡ day_request
   -- and the unit keeps it as it came
   pub unit_keeps : (store : List ℕ) (u : UnitState) (out_len : ℕ) (name : AnswerName) → Called store u out_len
-      → Asked u name → is_granted u.phase ≡ true → lookup_number (form_of store) name store ≡ 0
-      → is_split (length (drop 2 (lookup_part (form_of store) name store))) ≡ true
+      → Asked u name → is_granted u.phase ≡ true → lookup_number narrow name store ≡ 0
+      → is_split (length (drop 2 (lookup_part narrow name store))) ≡ true
       → (unit_state lab store out_len u (frame_of lab ends.Unit (transfer_request name))).phase ≡ Sending name (sub 1)
   -- every second of a day gets the same bytes, in every phase, and the next states differ in the second alone
   pub alike_reply : (store : List ℕ) (u : UnitState) (out_len : ℕ) (name other : AnswerName) → Called store u out_len

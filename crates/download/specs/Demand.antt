@@ -11,7 +11,7 @@ use Rattle.octets.specs.Buffer.{same_bytes}
 use Rattle.catalog.specs.declared.AnswerName.{AnswerName}
 use Rattle.catalog.specs.Table.{known_to}
 use Rattle.split.specs.Split.{count_of, carries, sub_frame}
-use Rattle.store.specs.Layout.{form_of}
+use Rattle.store.specs.Layout.{narrow}
 use Rattle.store.specs.Read.{lookup_number, lookup_part}
 use Rattle.services.specs.declared.UnitState.{UnitState}
 use Rattle.services.specs.declared.Phase.{Phase}
@@ -33,8 +33,8 @@ use Rattle.download.specs.CableEnds.{cable_ends, refused, tool_begun}
 
 -- the store is unbroken (else 13 to 17) and holds an answer of that name (else 6), with these bytes
 pub record Holds (store : List ℕ) (name : AnswerName) (answer : List ℕ) : Type 0 where
-  pub held : lookup_number (form_of store) name store ≡ 0
-  pub bytes : lookup_part (form_of store) name store ≡ answer
+  pub held : lookup_number narrow name store ≡ 0
+  pub bytes : lookup_part narrow name store ≡ answer
 
 -- "A list starts behind a transfer's accepted begin": the answer by its name and bytes, the unit with its store, the
 -- tool with its room and output
@@ -66,7 +66,7 @@ SendingUnchanged Closed before now = Unit {0}
 SendingUnchanged Started before now = Unit {0}
 SendingUnchanged Session before now = Unit {0}
 SendingUnchanged Granted before now = Unit {0}
-SendingUnchanged (Sending other last) before now = Holds now other (lookup_part (form_of before) other before)
+SendingUnchanged (Sending other last) before now = Holds now other (lookup_part narrow other before)
 
 module _ (given : Premises) where
   -- The store of a unit's call in the state u. It may be another one at every call; it is unbroken and holds this

@@ -3,4 +3,3 @@ pub mod Demand
 pub mod TradeCases
 pub mod DayCases
 pub mod AddressCases
-pub mod WideCases

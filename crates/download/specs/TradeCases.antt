@@ -7,9 +7,9 @@ use Rattle.catalog.specs.declared.AnswerName.{AnswerName}
 use Rattle.catalog.specs.Name.{day_named}
 use Rattle.catalog.specs.Table.{known_to}
 use Rattle.split.specs.Codes.{sub, acknowledge_of}
-use Rattle.split.specs.Split.{messages_most, count_of}
+use Rattle.split.specs.Split.{count_of}
 use Rattle.split.specs.Join.{frames_of}
-use Rattle.store.specs.Layout.{form_of}
+use Rattle.store.specs.Layout.{narrow}
 use Rattle.store.specs.Check.{store_number}
 use Rattle.store.specs.Read.{lookup_number, lookup_part}
 use Rattle.store.specs.Claims.{store12}
@@ -24,7 +24,7 @@ use Rattle.requests.specs.Sent.{transfer_request, acknowledgement, frame_sent}
 
 -- a unit's call that is refused neither for its store nor by 11 or 4
 pub record Called (store : List ℕ) (u : UnitState) (out_len : ℕ) : Type 0 where
-  pub unbroken : store_number (form_of store) store ≡ 0
+  pub unbroken : store_number narrow store ≡ 0
   pub possible : unit_states.possible store u ≡ true
   pub roomy : frame_most ≤ out_len
 
@@ -54,7 +54,7 @@ pub record TradeCases : Type 0 where
       ≡ 0x80 ∷ 0x_f0 ∷ 0x_eE ∷ 0x04 ∷ 0x76 ∷ 0x00 ∷ 0x02 ∷ 0x02 ∷ 0x_dC ∷ []
   -- W4: transfer of an answer not held, granted or sending
   pub w4 : (store : List ℕ) (u : UnitState) (out_len : ℕ) (name : AnswerName) → Called store u out_len → Asked u name
-      → is_granted u.phase ≡ true → lookup_number (form_of store) name store ≡ 6
+      → is_granted u.phase ≡ true → lookup_number narrow name store ≡ 6
       → unit_reply lab store out_len u (frame_of lab ends.Unit (transfer_request name))
       ≡ 0x80 ∷ 0x_f0 ∷ 0x_eE ∷ 0x03 ∷ 0x7_f ∷ 0x36 ∷ 0x_fA ∷ 0x10 ∷ []
   -- W5: transfer in session, held or not
@@ -62,9 +62,9 @@ pub record TradeCases : Type 0 where
       → u.phase ≡ Session
       → unit_reply lab store out_len u (frame_of lab ends.Unit (transfer_request name))
       ≡ 0x80 ∷ 0x_f0 ∷ 0x_eE ∷ 0x03 ∷ 0x7_f ∷ 0x36 ∷ 0x22 ∷ 0x38 ∷ []
-  -- W6: acknowledgement past the last, if it is below 65,534: behind that the code is stop (document 02, Req 08)
+  -- W6: acknowledgement past the last
   pub w6 : (store : List ℕ) (u : UnitState) (out_len : ℕ) (name : AnswerName) (last : ℕ) → Called store u out_len
-      → last < messages_most → u.phase ≡ Sending name (sub last) → last ≡ count_of (length (drop 2 (lookup_part (form_of store) name store)))
+      → u.phase ≡ Sending name (sub last) → last ≡ count_of (length (drop 2 (lookup_part narrow name store)))
       → unit_reply lab store out_len u (frame_of lab ends.Unit (acknowledgement (acknowledge_of (sub last))))
       ≡ 0x80 ∷ 0x_f0 ∷ 0x_eE ∷ 0x03 ∷ 0x7_f ∷ 0x83 ∷ 0x12 ∷ 0x75 ∷ []
   -- W7 to W10: 252, 253, 501, 502 data bytes
@@ -76,4 +76,4 @@ pub record TradeCases : Type 0 where
   pub w11 : (name : AnswerName)
       → frame_sent lab requests.Transfer name 2 ≡ 0x80 ∷ 0x_eE ∷ 0x_f0 ∷ 0x04 ∷ 0x83 ∷ 0x76 ∷ 0x00 ∷ 0x02 ∷ 0x5_d ∷ []
   -- W12: store with 02 02 under TREP 00, appended to an empty one
-  pub w12 : append_out (form_of (replicate 16 0x00)) (0x76 ∷ 0x00 ∷ 0x02 ∷ 0x02 ∷ []) 0 (replicate 16 0x00) ≡ store12
+  pub w12 : append_out narrow (0x76 ∷ 0x00 ∷ 0x02 ∷ 0x02 ∷ []) 0 (replicate 16 0x00) ≡ store12

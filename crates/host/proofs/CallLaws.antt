@@ -17,7 +17,7 @@ use Rattle.frame.specs.declared.Addresses.{Addresses}
 use Rattle.frame.specs.Frame.{judged}
 use Rattle.frame.proofs.GivenLaws.{equal-ones, different-ones, taken-given}
 use Rattle.catalog.specs.declared.AnswerName.{AnswerName}
-use Rattle.store.specs.Layout.{form_of}
+use Rattle.store.specs.Layout.{narrow}
 use Rattle.store.specs.Check.{store_number}
 use Rattle.services.specs.declared.UnitState.{UnitState}
 use Rattle.unit.specs.declared.UnitReply.{UnitReply}
@@ -53,10 +53,10 @@ turn-taken false n before size b state none z = absurd (let e = (or-zero before 
 
 -- bytes that are no state: 11 behind the store's number, whatever follows
 pub unit-impossible : (a : Addresses) (store : List ℕ) (room : ℕ) (b f : List ℕ) → is_unit b ≡ false
-    → unit_number a store room (unpacked_unit b) f ≡ or_else (store_number (form_of store) store) 11
+    → unit_number a store room (unpacked_unit b) f ≡ or_else (store_number narrow store) 11
 unfolding unit_number number_before unit-state.possible possible_at
 unit-impossible a store room b f h =
-    rw (← unit-none b no_unit h refl) (or-refused (store_number (form_of store) store) 11 (judged a ends.Unit f) refl)
+    rw (← unit-none b no_unit h refl) (or-refused (store_number narrow store) 11 (judged a ends.Unit f) refl)
 
 pub step-state : (a : Addresses) (step : UnitReply) (u : UnitState) (store : List ℕ) (room : ℕ) (b f p : List ℕ) → u ≡ unpacked_unit b
     → step ≡ unit_result_given a store room u f → p ≡ packed_unit step.state → step.number ≡ 0
@@ -65,7 +65,7 @@ unfolding unit_result_given unit_result
 step-state a step u store room b f p e q k n =
     let made : step ≡ unit_result a store room u f = taken-given a _ _ step (λ (s : UnitReply). s.number) (λ z. omega arith) q n in
     rw (k, length-unit step.state)
-    (turn-taken (is_unit b) (unit_number a store room (unpacked_unit b) f) (store_number (form_of store) store) 11 b (unit_size b) (unit-impossible a store room b f)
+    (turn-taken (is_unit b) (unit_number a store room (unpacked_unit b) f) (store_number narrow store) 11 b (unit_size b) (unit-impossible a store room b f)
     (rw (← e) (ap (λ (s : UnitReply). s.number) (sym made) ∙ n)))
 
 -- a step on the state u that the bytes are

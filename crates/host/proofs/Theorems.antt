@@ -19,7 +19,7 @@ use Rattle.frame.specs.Given.{different}
 use Rattle.frame.specs.declared.End.TheVariants as ends
 use Rattle.frame.proofs.CheckLaws.{judged-most}
 use Rattle.catalog.specs.declared.AnswerName.{AnswerName}
-use Rattle.store.specs.Layout.{form_of}
+use Rattle.store.specs.Layout.{narrow}
 use Rattle.store.specs.Check.{store_number}
 use Rattle.store.specs.Faults.{IsFault}
 use Rattle.store.proofs.Refusals.{fault-first, store-not-five}
@@ -67,18 +67,18 @@ module _ (a : Addresses) (b store f reply : List ℕ) where
   turn-most k h e =
       omega (arith, unless-most (possible store (unpacked_unit b)) 11 (unless room 4 0) 11 (omega arith) (unless-most room 4 0 11 (omega arith) (omega arith)))
 
-  pub step-fault : different a ≡ true → (k : ℕ) → IsFault k → ((unit_step a b store (length reply) f).number ≡ k) ↔ (store_number (form_of store) store ≡ k)
+  pub step-fault : different a ≡ true → (k : ℕ) → IsFault k → ((unit_step a b store (length reply) f).number ≡ k) ↔ (store_number narrow store ≡ k)
   unfolding unit_result_given unit_result unit_number number_before
   step-fault d k q =
       let frame = or-first _ (judged a ends.Unit f) k (ne_eqb k 0 (λ z. omega (arith, q.0))) (λ e. omega (arith, judged-most a ends.Unit f, q.0)) in
-      let before = fault-first (form_of store) store _ k q (turn-most k (omega (arith, q.0))) in
+      let before = fault-first narrow store _ k q (turn-most k (omega (arith, q.0))) in
       rw d ((λ e. before.0 (frame.0 e)), (λ e. frame.1 (before.1 e)))
 
   not_five : unit_number a store (length reply) (unpacked_unit b) f ≡ 5 → ⊥
   unfolding unit_number number_before
   not_five e =
       let frame = (or-first _ (judged a ends.Unit f) 5 refl (λ z. omega (arith, judged-most a ends.Unit f))).0 e in
-      let turn = (or_is (store_number (form_of store) store) _ 5 (store-not-five (form_of store) store) frame).rest in
+      let turn = (or_is (store_number narrow store) _ 5 (store-not-five narrow store) frame).rest in
       let size = (unless-is (possible store (unpacked_unit b)) 11 _ 5 refl turn).rest in
       eqb-false 0 5 refl (unless-is room 4 0 5 refl size).rest
 
@@ -91,7 +91,7 @@ module _ (a : Addresses) (b store f reply : List ℕ) where
       go false e q = let z : format_or_address ≡ 5 = rw e at q in omega arith
 
 -- "Packed state bytes that are no state count as impossible": 11, behind the store's number
-pub unit-no-state : (a : Addresses) (b store f reply : List ℕ) → different a ≡ true → store_number (form_of store) store ≡ 0 → is_unit b ≡ false
+pub unit-no-state : (a : Addresses) (b store f reply : List ℕ) → different a ≡ true → store_number narrow store ≡ 0 → is_unit b ≡ false
     → unit_handed (unit_step a b store (length reply) f) ≡ refusal 11
 unfolding unit_result_given unit_result
 unit-no-state a b store f reply d s h =

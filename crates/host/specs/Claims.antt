@@ -11,7 +11,7 @@ use Rattle.frame.specs.Frame.{lab, judged, data_place, write_result, write_out}
 use Rattle.frame.specs.Given.{judged_given, data_place_given, write_result_given, write_out_given}
 use Rattle.split.specs.Split.{sub_result, sub_out, sub_result_given, sub_out_given}
 use Rattle.catalog.specs.declared.AnswerName.{AnswerName}
-use Rattle.store.specs.Layout.{form_of}
+use Rattle.store.specs.Layout.{narrow}
 use Rattle.store.specs.Check.{store_number}
 use Rattle.store.specs.Faults.{IsFault}
 use Rattle.unit.specs.declared.UnitReply.{UnitReply}
@@ -99,10 +99,10 @@ pub record DifferentClaims (a : Addresses) : Type 0 where
   -- "Wherever 5 was given, exactly one of these is given now" (document 02, Req 06): the unit gives the number of a
   -- broken store before any other
   pub step_fault : (state store frame reply : List ℕ) (k : ℕ) → IsFault k
-      → ((stepped a state store frame reply).number ≡ k) ↔ (store_number (form_of store) store ≡ k)
+      → ((stepped a state store frame reply).number ≡ k) ↔ (store_number narrow store ≡ k)
   -- "Packed state bytes that are no state count as impossible": 11, behind a broken store at the unit and behind 12 of
   -- a begin
-  pub step_no_state : (state store frame reply : List ℕ) → is_unit state ≡ false → store_number (form_of store) store ≡ done
+  pub step_no_state : (state store frame reply : List ℕ) → is_unit state ≡ false → store_number narrow store ≡ done
       → unit_handed (stepped a state store frame reply) ≡ refusal out_of_turn
   pub begin_no_state : (state : List ℕ) (request : ℕ) (name : AnswerName) (out : List ℕ) → is_tool state ≡ false
       → request ≤ 5 → request_number (request_from request) name ≡ done

@@ -1,6 +1,6 @@
-// The bench store, old or wide: the whole buffer is lent, the store is its front.
+// The bench store: the whole buffer is lent, the store is its front.
 ghost use Rattle.std.specs.Prelude.{◌≡◌};
-ghost use Rattle.store.specs.Layout.{form_of};
+ghost use Rattle.store.specs.Layout.{narrow};
 ghost use Rattle.store.specs.Check.{store_fault, store_number};
 ghost use Rattle.store.specs.Read.{lookup_place, stream_place, count_held, held_answer};
 ghost use Rattle.append.specs.Append.{append_result, append_out};
@@ -24,49 +24,49 @@ pub struct Held {
 // What is broken in the store, and where.
 #[unsafe(no_mangle)]
 pub extern "C" fn tacho_store_fault(store: &[u8]) -> Fault
-    ensures { result ≡ store_fault (form_of store.now) store.now }
+    ensures { result ≡ store_fault narrow store.now }
 {
-    store::call::fault(store)
+    store::check::fault(store)
 }
 
 // 0 for an unbroken store, else the number of its fault.
 #[unsafe(no_mangle)]
 pub extern "C" fn tacho_store_check(store: &[u8]) -> u8
-    ensures { result ≡ store_number (form_of store.now) store.now }
+    ensures { result ≡ store_number narrow store.now }
 {
-    store::call::check(store)
+    store::check::check(store)
 }
 
 // Where an answer lies.
 #[unsafe(no_mangle)]
 pub extern "C" fn tacho_store_lookup(store: &[u8], trep: u8, day: u32) -> Place
-    ensures { result ≡ lookup_place (form_of store.now) (record { trep = trep; day = day }) store.now }
+    ensures { result ≡ lookup_place narrow (record { trep = trep; day = day }) store.now }
 {
-    store::call::locate(store, AnswerName { trep, day })
+    store::read::locate(store, AnswerName { trep, day })
 }
 
 // Where the stream lies.
 #[unsafe(no_mangle)]
 pub extern "C" fn tacho_store_stream(store: &[u8]) -> Place
-    ensures { result ≡ stream_place (form_of store.now) store.now }
+    ensures { result ≡ stream_place narrow store.now }
 {
-    store::call::locate_stream(store)
+    store::read::locate_stream(store)
 }
 
 // How many answers the store holds.
 #[unsafe(no_mangle)]
 pub extern "C" fn tacho_store_count(store: &[u8]) -> Counted
-    ensures { result ≡ count_held (form_of store.now) store.now }
+    ensures { result ≡ count_held narrow store.now }
 {
-    store::call::count(store)
+    store::read::count(store)
 }
 
 // Answer `k`, from 0: its name, and where it lies.
 #[unsafe(no_mangle)]
 pub extern "C" fn tacho_store_answer(store: &[u8], k: usize) -> Held
-    ensures { result ≡ held_of (held_answer (form_of store.now) k store.now) }
+    ensures { result ≡ held_of (held_answer narrow k store.now) }
 {
-    let held = store::call::held(store, k);
+    let held = store::read::held(store, k);
     Held {
         number: held.number,
         trep: held.name.trep,
@@ -79,8 +79,8 @@ pub extern "C" fn tacho_store_answer(store: &[u8], k: usize) -> Held
 // Puts an answer last; `len` is the store's new length.
 #[unsafe(no_mangle)]
 pub extern "C" fn tacho_store_append(store: &mut [u8], answer: &[u8], day: u32) -> Written
-    ensures value { result ≡ append_result (form_of store.old) answer.now day store.old }
-    ensures store_after { store.new ≡ append_out (form_of store.old) answer.now day store.old }
+    ensures value { result ≡ append_result narrow answer.now day store.old }
+    ensures store_after { store.new ≡ append_out narrow answer.now day store.old }
 {
     append::append(store, answer, day)
 }

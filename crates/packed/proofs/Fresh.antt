@@ -15,7 +15,7 @@ use Rattle.frame.proofs.Theorems.{write-then-check, data-reads-back, start-good}
 use Rattle.frame.specs.declared.End.TheVariants as ends
 use Rattle.catalog.specs.Name.{name_number}
 use Rattle.catalog.specs.declared.AnswerName.{AnswerName}
-use Rattle.store.specs.Layout.{form_of}
+use Rattle.store.specs.Layout.{narrow}
 use Rattle.store.specs.Check.{store_number}
 use Rattle.services.specs.declared.Phase.{Phase}
 use Rattle.services.specs.declared.Phase.TheVariants.{Closed, Started, Session, Granted}
@@ -46,7 +46,7 @@ use Rattle.packed.proofs.Simulation.{simulation}
 abbrev unit_in : ℕ → Phase → UnitState
 unit_in kind phase = record { kind = kind; rate = 1; pending = 0; phase = phase }
 
-module _ (a : Addresses) (two : different a ≡ true) (kind : ℕ) (store reply : List ℕ) (k : kind < 3) (unbroken : store_number (form_of store) store ≡ 0)
+module _ (a : Addresses) (two : different a ≡ true) (kind : ℕ) (store reply : List ℕ) (k : kind < 3) (unbroken : store_number narrow store ≡ 0)
     (room : 260 ≤ length reply) where
   -- a step that is not refused, from what it makes of the state
   stepped : (p q : Phase) (request : Request) → units.Fits p → possible store (unit_in kind p) ≡ true

@@ -7,7 +7,7 @@ use Rattle.frame.specs.Frame.{frame_most}
 use Rattle.frame.specs.declared.Addresses.{Addresses}
 use Rattle.catalog.specs.Name.{name_number}
 use Rattle.catalog.specs.declared.AnswerName.{AnswerName}
-use Rattle.store.specs.Layout.{form_of}
+use Rattle.store.specs.Layout.{narrow}
 use Rattle.store.specs.Check.{store_number}
 use Rattle.services.specs.declared.Phase.TheVariants.{Granted}
 use Rattle.progress.specs.declared.Request.{Request}
@@ -27,7 +27,7 @@ pub record FromFresh : Type 0 where
       → length state ≡ 15 → name_number name ≡ done → frame_most ≤ length output
       → (tool_begin a (tool_fresh_state state) 5 name (length output)).number ≡ done
   pub granted : (a : Addresses) → a.unit ≢ a.tool → (kind : ℕ) (state store reply : List ℕ) → kind < 3
-      → length state ≡ 11 → store_number (form_of store) store ≡ done → frame_most ≤ length reply
+      → length state ≡ 11 → store_number narrow store ≡ done → frame_most ≤ length reply
       → UnitIs
       (behind a store reply requests.Upload
       (behind a store reply requests.Session

@@ -1,4 +1,3 @@
 -- Laws of the tool's state, for this crate's proofs and for the crates above it.
 pub mod StateLaws
 pub mod NextLaws
-pub mod Claims

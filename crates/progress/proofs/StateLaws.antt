@@ -3,12 +3,10 @@ use Prim.Native.Nat.{ℕ, ◌+◌, ◌-◌, ◌*◌, ◌<◌, ◌≤◌}
 use mathlib.Core.Bool.{Bool, true, false, cond, not, ◌&&◌, ◌||◌}
 use mathlib.Core.Path.{◌≡◌, refl}
 use native.Mathlib.Omega.{arith}
-use native.Mathlib.Decide.{dec_le}
 use lib.Dec.{eqb, leb}
 use borrow.Author.Tests.{le-leb, lt-leb, eq-eqb, ne_eqb, leb-true, eqb-true}
 use Rattle.octets.proofs.Tests.{and_left, and_right, never}
 use Rattle.catalog.specs.Name.{name_number}
-use Rattle.split.specs.Split.{messages_most, piece_size}
 use Rattle.progress.specs.declared.ToolState.{ToolState}
 use Rattle.progress.specs.State.{held_most, is_transfer, is_waiting, held_right, transfer_possible, possible}
 
@@ -71,31 +69,25 @@ module _ (room_len : ℕ) (t : ToolState) where
     unfolding possible
     possible-transfer r l h f q = rw (w, le-leb 1 t.sendings l, le-leb t.sendings 3 h, f) q
 
--- What a possible waiting transfer has: a name that 12 allows, a number expected from 1 to 65,534, and held bytes within room and 16,449,035
+-- What a possible waiting transfer has: a name that 12 allows, a number expected from 1 to 240, and held bytes within room and 60,000
 pub record WaitingTransfer (room_len : ℕ) (t : ToolState) : Type 0 where
   pub named : name_number t.name ≡ 0
   pub expected_least : 1 ≤ t.expected.0
-  pub expected_most : t.expected.0 ≤ messages_most
+  pub expected_most : t.expected.0 ≤ 240
   pub held_room : t.held ≤ room_len
   pub held_bound : t.held ≤ held_most
   pub held_is : held_right t.expected.0 t.held ≡ true
 
-held-says : (e held : ℕ) → held_right e held ≡ true → (1 ≤ e) × (2 ≤ e → held ≡ 2 + 251 * (e - 1))
+expected-bounds : (e held : ℕ) → held_right e held ≡ true → held ≤ held_most → (1 ≤ e) × (e ≤ 240)
 unfolding held_right
-held-says e held h = go (eqb e 1) refl h
+expected-bounds e held h m = go (eqb e 1) refl h
   where
-    go : (b : Bool) → eqb e 1 ≡ b → cond b (eqb held 0) (leb 2 e && eqb held (2 + 251 * (e - 1))) ≡ true → (1 ≤ e) × (2 ≤ e → held ≡ 2 + 251 * (e - 1))
-    go true p q = let z : e ≡ 1 = eqb-true e 1 p in (omega arith, (λ l. absurd (omega arith)))
+    go : (b : Bool) → eqb e 1 ≡ b → cond b (eqb held 0) (leb 2 e && eqb held (2 + 251 * (e - 1))) ≡ true → (1 ≤ e) × (e ≤ 240)
+    go true p q = let z : e ≡ 1 = eqb-true e 1 p in (omega arith, omega arith)
     go false p q =
         let l : 2 ≤ e = leb-true 2 e (and_left (leb 2 e) _ q) in
-        (omega arith, (λ k. eqb-true held _ (and_right (leb 2 e) _ q)))
-
--- the bound holds with number 65,534 expected, and leaves no room for a full sub message then
-expected-most : (e held : ℕ) → held_right e held ≡ true → held ≤ held_most → e ≤ messages_most
-expected-most e held h m = elim (dec_le 2 e) [ yes l ↦ omega (arith, (held-says e held h).1 l) | no l ↦ omega arith ]
-
-pub next-most : (e held n : ℕ) → held_right e held ≡ true → piece_size ≤ n → held + n ≤ held_most → e + 1 ≤ messages_most
-next-most e held n h f m = elim (dec_le 2 e) [ yes l ↦ omega (arith, (held-says e held h).1 l) | no l ↦ omega arith ]
+        let s : held ≡ 2 + 251 * (e - 1) = eqb-true held _ (and_right (leb 2 e) _ q) in
+        (omega arith, omega arith)
 
 sent-and-fits : (s f p : Bool) → (s && (not f || p)) ≡ true → f ≡ true → p ≡ true
 sent-and-fits true true p e q = e
@@ -111,10 +103,11 @@ waiting-transfer room_len t w p f =
     let h : held_right t.expected.0 t.held ≡ true = and_left (held_right t.expected.0 t.held) _ y in
     let z = and_right (held_right t.expected.0 t.held) _ y in
     let m : t.held ≤ held_most = leb-true t.held held_most (and_right (leb t.held room_len) _ z) in
+    let b = expected-bounds t.expected.0 t.held h m in
     record {
       named = eqb-true _ 0 (and_left (eqb (name_number t.name) 0) _ x);
-      expected_least = (held-says t.expected.0 t.held h).0;
-      expected_most = expected-most t.expected.0 t.held h m;
+      expected_least = b.0;
+      expected_most = b.1;
       held_room = leb-true t.held room_len (and_left (leb t.held room_len) _ z);
       held_bound = m;
       held_is = h;

@@ -1,4 +1,3 @@
--- Document 01, The tool: its state; document 02, Req 08.
+-- Document 01, The tool: its state.
 pub mod State
 pub mod Next
-pub mod Claims

@@ -1,7 +1,7 @@
 -- The tool's state: fresh, waiting, possible.
 use Rattle.std.specs.Prelude.{ℕ, ◌+◌, ◌-◌, ◌*◌, Bool, true, false, cond, not, ◌&&◌, ◌||◌, eqb, leb}
 use Rattle.catalog.specs.Name.{zero_name, name_number}
-use Rattle.split.specs.Split.{data_most, piece_size}
+use Rattle.split.specs.Split.{piece_size}
 use Rattle.split.specs.Codes.{sub}
 use Rattle.progress.specs.declared.Request.{Request}
 use Rattle.progress.specs.declared.Request.TheVariants as requests
@@ -9,14 +9,9 @@ use Rattle.progress.specs.declared.Outcome.{Outcome}
 use Rattle.progress.specs.declared.Outcome.TheVariants.{Fresh, Waiting, Done, NoAnswer, NoRoom, Refused}
 use Rattle.progress.specs.declared.ToolState.{ToolState}
 
--- "The tool's own bound of 60,000 held bytes becomes 16,449,035 wherever document 01 names it" (document 02, Req 08): as
--- many as 76, TREP and the data of the longest answer
+-- "If they would pass the room or 60,000"
 abbrev pub held_most : ℕ
-held_most = 2 + data_most
-
--- "within room and" that bound
-abbrev pub within : ℕ → ℕ → Bool
-within room_len n = leb n room_len && leb n held_most
+held_most = 60000
 
 -- "A fresh tool has begun nothing"
 abbrev pub fresh_tool : ToolState
@@ -43,10 +38,11 @@ is_waiting (Refused code) = false
 unfoldable pub held_right : ℕ → ℕ → Bool
 held_right e held = cond (eqb e 1) (eqb held 0) (leb 2 e && eqb held (2 + piece_size * (e - 1)))
 
--- "for a transfer, a TREP and day that 12 allows and .. held .., within room and" the bound
+-- "for a transfer, a TREP and day that 12 allows and .. held .., within room and 60,000"
 unfoldable pub transfer_possible : ℕ → ToolState → Bool
 transfer_possible room_len t =
-    eqb (name_number t.name) 0 && (held_right t.expected.0 t.held && within room_len t.held)
+    eqb (name_number t.name) 0
+    && (held_right t.expected.0 t.held && (leb t.held room_len && leb t.held held_most))
 
 -- "A waiting state has 1 to 3 sendings and, for a transfer, .."; "its state, and every ended one, is possible"
 unfoldable pub possible : ℕ → ToolState → Bool

@@ -5,10 +5,10 @@ ghost use Rattle.progress.specs.State.{fresh_tool, is_transfer, is_waiting, held
 use crate::{Outcome, Request, ToolState};
 use catalog::AnswerName;
 use split::SubMessage;
-use split::pieces::{DATA_MOST, PIECE};
+use split::pieces::PIECE;
 
-// The most bytes that the tool holds: 76, TREP and the data of the longest answer.
-pub const HELD_MOST: usize = 2 + DATA_MOST;
+// "If they would pass the room or 60,000"
+pub const HELD_MOST: usize = 60000;
 
 // A tool that has begun nothing.
 pub fn fresh() -> ToolState

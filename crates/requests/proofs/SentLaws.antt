@@ -2,9 +2,9 @@
 use Prim.Native.Nat.{ℕ, ◌-◌, ◌/◌, ◌%◌, ◌≤◌}
 use mathlib.Core.Bool.{Bool, true, false, cond}
 use mathlib.Core.List.{List, [], ◌∷◌}
-use mathlib.Core.Path.{◌≡◌, refl, ap}
+use mathlib.Core.Path.{◌≡◌, refl}
 use native.Mathlib.Omega.{arith}
-use lib.ListN.{length, get_or}
+use lib.ListN.{length}
 use lib.Dec.{eqb}
 use borrow.Author.Tests.{eq-eqb, ne_eqb}
 use Rattle.fields.specs.BigEndian.{bytes_of}
@@ -17,14 +17,12 @@ use Rattle.frame.specs.Frame.{frame_most, closed, frame_of, send_result, send_ou
 use Rattle.frame.proofs.WriteLaws.{sent-whole, sent_front}
 use Rattle.catalog.specs.Table.{is_activities}
 use Rattle.catalog.specs.declared.AnswerName.{AnswerName}
-use Rattle.split.specs.Split.{messages_most}
 use Rattle.split.specs.Codes.{sub, acknowledge_of}
 use Rattle.split.specs.declared.SubMessage.{SubMessage}
 use Rattle.split.specs.declared.AckCode.{AckCode}
 use Rattle.progress.specs.declared.Request.{Request}
 use Rattle.progress.specs.declared.Request.TheVariants as requests
-use Rattle.progress.specs.State.{is_transfer}
-use Rattle.requests.specs.Sent.{transfer_request, acknowledgement, stop_frame, transfer_data, frame_sent}
+use Rattle.requests.specs.Sent.{transfer_request, acknowledgement, transfer_data, frame_sent}
 
 -- What was sent under one description, under another: frames of equal data, and equal requests
 
@@ -112,26 +110,3 @@ module _ (a : Addresses) (o : List ℕ) (room : frame_most ≤ length o) where
     pub acknowledgement-front : (o' : List ℕ) → o' ≡ send_out (frame_of a ends.Unit (acknowledgement code)) o
         → o' ≡ front (frame_of a ends.Unit (acknowledgement code)) o
     acknowledgement-front = sent_front _ o (omega (arith, acknowledgement-most a code))
-
--- Code FFFF is in none of them while a transfer expects a number up to 65,534
-
-transfer-goes-on : (a : Addresses) (name : AnswerName) (e : ℕ) → e ≤ messages_most → frame_of a ends.Unit (transfer_data name e) ≡ stop_frame a → ⊥
-unfolding frame_of closed transfer_data transfer_request acknowledgement
-transfer-goes-on a name e m = go (eqb e 1)
-  where
-    go : (first : Bool) → frame_of a ends.Unit (cond first (transfer_request name) (acknowledgement (acknowledge_of (sub (e - 1))))) ≡ stop_frame a → ⊥
-    go true f = omega (arith, ap (λ (l : List ℕ). get_or l 4 0) f)
-    go false f = omega (arith, ap (λ (l : List ℕ). get_or l 6 0) f, ap (λ (l : List ℕ). get_or l 7 0) f)
-
-pub sent-goes-on : (a : Addresses) (q : Request) (name : AnswerName) (e : ℕ) → (is_transfer q ≡ true → e ≤ messages_most) → frame_sent a q name e ≡ stop_frame a → ⊥
-unfolding frame_sent frame_of closed acknowledgement
-sent-goes-on a requests.Start name e m f = omega (arith, ap (λ (l : List ℕ). get_or l 0 0) f)
-sent-goes-on a requests.Session name e m f = omega (arith, ap (λ (l : List ℕ). get_or l 4 0) f)
-sent-goes-on a requests.Upload name e m f = omega (arith, ap (λ (l : List ℕ). get_or l 4 0) f)
-sent-goes-on a requests.Exit name e m f = omega (arith, ap (λ (l : List ℕ). get_or l 4 0) f)
-sent-goes-on a requests.Stop name e m f = omega (arith, ap (λ (l : List ℕ). get_or l 4 0) f)
-sent-goes-on a requests.Transfer name e m f = transfer-goes-on a name e (m refl) f
-
-pub none-goes-on : (a : Addresses) → [] ≡ stop_frame a → ⊥
-unfolding frame_of closed
-none-goes-on a f = omega (arith, ap length f)

@@ -7,7 +7,7 @@ use Rattle.frame.specs.Frame.{frame_of}
 use Rattle.frame.specs.Messages.{start_frame, session_request, upload_request, exit_request, stop_request}
 use Rattle.catalog.specs.Table.{is_activities}
 use Rattle.catalog.specs.declared.AnswerName.{AnswerName}
-use Rattle.split.specs.Codes.{sub, acknowledge_of, stop_code}
+use Rattle.split.specs.Codes.{sub, acknowledge_of}
 use Rattle.split.specs.declared.AckCode.{AckCode}
 use Rattle.progress.specs.declared.Request.{Request}
 use Rattle.progress.specs.declared.Request.TheVariants as requests
@@ -19,10 +19,6 @@ transfer_request name = 0x36 ∷ name.trep ∷ cond (is_activities name.trep) (b
 -- "83 76 and a code"
 unfoldable pub acknowledgement : AckCode → List ℕ
 acknowledgement code = 0x83 ∷ 0x76 ∷ bytes_of 2 code.0
-
--- "for a sub message, code FFFF is sent"
-abbrev pub stop_frame : Addresses → List ℕ
-stop_frame a = frame_of a ends.Unit (acknowledgement stop_code)
 
 -- the data of a transfer's frame with number e expected: the request, or the acknowledgement of the sub message before
 unfoldable pub transfer_data : AnswerName → ℕ → List ℕ

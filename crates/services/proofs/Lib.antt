@@ -4,4 +4,3 @@ pub mod ServiceLaws
 pub mod AfterLaws
 pub mod ReactionLaws
 pub mod Days
-pub mod Codes

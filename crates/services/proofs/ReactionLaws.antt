@@ -108,7 +108,7 @@ module _ (P : Reaction → Type 0) (plain : (x : Reaction) → sends_answer x �
       either P (eqb (length d) 4)
       (either P (eqb (get_or d 1 0) 0x76) (coded (code (number_at 2 2 d))) (negative 0x83 0x31)) (negative 0x83 0x13)
 
-  -- none, the last one again, or the next one
+  -- the last one again, the next one, or none
   from-sending : (phase : Phase) (sent : Place) (c : AckCode)
       → ((name : AnswerName) (last : SubMessage) → phase ≡ Sending name last → P (AnswerSent name last sent))
       → ((name : AnswerName) (last : SubMessage) → phase ≡ Sending name last → last.0 + 1 ≤ count_of (data_length_at sent)
@@ -120,9 +120,9 @@ module _ (P : Reaction → Type 0) (plain : (x : Reaction) → sends_answer x �
   from-sending Session sent c again next = negative 0x83 0x22
   from-sending Granted sent c again next = negative 0x83 0x22
   from-sending (Sending name last) sent c again next =
-      either P (same_code c stop_code) (plain AnswerStopped refl)
-      (either P (same_code c (repeat_of last)) (again name last refl)
-      (either P (same_code c (acknowledge_of last)) (go (leb (last.0 + 1) (count_of (data_length_at sent))) refl) (negative 0x83 0x22)))
+      either P (same_code c (repeat_of last)) (again name last refl)
+      (either P (same_code c (acknowledge_of last)) (go (leb (last.0 + 1) (count_of (data_length_at sent))) refl)
+      (either P (same_code c stop_code) (plain AnswerStopped refl) (negative 0x83 0x22)))
     where
       go : (b : Bool) → leb (last.0 + 1) (count_of (data_length_at sent)) ≡ b → P (cond b (AnswerSent name (next_of last) sent) (Negative 0x83 0x12))
       go true e = next name last refl (leb-true _ _ e)

@@ -101,36 +101,35 @@ code-differs x r k n q = ne_eqb x k.0 (λ e. n (e ∙ ap (λ (y : AckCode). y.0)
 code_same : (x : ℕ) (r k : AckCode) → x ≡ r.0 → r ≡ k → eqb x k.0 ≡ true
 code_same x r k e q = eq-eqb x k.0 (e ∙ ap (λ (y : AckCode). y.0) q)
 
--- a code that is last sent plus 1 is not last sent
-next-differs : (x : ℕ) (b : AckCode) (last : SubMessage) → x ≡ b.0 → b ≡ acknowledge_of last → eqb x (repeat_of last).0 ≡ false
-next-differs x b last h next = ne_eqb x last.0 (λ e. omega (arith, ap (λ (y : AckCode). y.0) next))
-
--- The returns of a code; s, b and a are the codes of stop, next and again that `split::codes` gave
-module _ (name : AnswerName) (last : SubMessage) (place : Place) (c s : AckCode) where
-  pub code-stop : c.0 ≡ s.0 → s ≡ stop_code → AnswerStopped ≡ on_code name last place c
+-- The returns of a code; a, b and s are the codes that `split::codes` gave
+module _ (name : AnswerName) (last : SubMessage) (place : Place) (c a : AckCode) (again : a ≡ repeat_of last) where
+  pub code-repeat : c.0 ≡ a.0 → AnswerSent name last place ≡ on_code name last place c
   unfolding on_code
-  code-stop h stop = rw (code_same c.0 s stop_code h stop)
+  code-repeat h = rw (code_same c.0 a (repeat_of last) h again)
 
-  pub code-next : (r : Reaction) (b : AckCode) → r ≡ send_next name last place → c.0 ≡ b.0 → b ≡ acknowledge_of last → (c.0 ≡ s.0 → ⊥) → s ≡ stop_code
-      → r ≡ on_code name last place c
-  unfolding on_code
-  code-next r b q h next not-stop stop =
-      rw (code-differs c.0 s stop_code not-stop stop, next-differs c.0 b last h next, code_same c.0 b (acknowledge_of last) h next) q
+  module _ (not-again : c.0 ≡ a.0 → ⊥) (b : AckCode) (next : b ≡ acknowledge_of last) where
+    pub code-next : (r : Reaction) → c.0 ≡ b.0 → r ≡ send_next name last place → r ≡ on_code name last place c
+    unfolding on_code
+    code-next r h q = rw (code-differs c.0 a (repeat_of last) not-again again, code_same c.0 b (acknowledge_of last) h next) q
 
-  pub code-repeat : (a : AckCode) → c.0 ≡ a.0 → a ≡ repeat_of last → (c.0 ≡ s.0 → ⊥) → s ≡ stop_code
-      → AnswerSent name last place ≡ on_code name last place c
-  unfolding on_code
-  code-repeat a h again not-stop stop = rw (code-differs c.0 s stop_code not-stop stop, code_same c.0 a (repeat_of last) h again)
+    module _ (not-next : c.0 ≡ b.0 → ⊥) (s : AckCode) (stop : s ≡ stop_code) where
+      pub code-stop : c.0 ≡ s.0 → AnswerStopped ≡ on_code name last place c
+      unfolding on_code
+      code-stop h =
+          rw (
+            code-differs c.0 a (repeat_of last) not-again again,
+            code-differs c.0 b (acknowledge_of last) not-next next,
+            code_same c.0 s stop_code h stop,
+          )
 
-  pub code_other : (a b : AckCode) → (c.0 ≡ a.0 → ⊥) → a ≡ repeat_of last → (c.0 ≡ b.0 → ⊥) → b ≡ acknowledge_of last → (c.0 ≡ s.0 → ⊥) → s ≡ stop_code
-      → Negative 0x83 0x22 ≡ on_code name last place c
-  unfolding on_code
-  code_other a b not-again again not-next next not-stop stop =
-      rw (
-        code-differs c.0 s stop_code not-stop stop,
-        code-differs c.0 a (repeat_of last) not-again again,
-        code-differs c.0 b (acknowledge_of last) not-next next,
-      )
+      pub code_other : (c.0 ≡ s.0 → ⊥) → Negative 0x83 0x22 ≡ on_code name last place c
+      unfolding on_code
+      code_other h =
+          rw (
+            code-differs c.0 a (repeat_of last) not-again again,
+            code-differs c.0 b (acknowledge_of last) not-next next,
+            code-differs c.0 s stop_code h stop,
+          )
 
 -- The sub message behind the last one; n is the length of the data, c the count
 module _ (name : AnswerName) (last : SubMessage) (place : Place) (n c : ℕ) (measured : n ≡ data_length_at place) (counted : c ≡ count_of n) where

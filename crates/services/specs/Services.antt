@@ -105,13 +105,12 @@ send_next name last sent =
     unless (leb (last.0 + 1) (count_of (data_length_at sent))) (Negative 0x83 0x12)
     (AnswerSent name (next_of last) sent)
 
--- "Code (DDP_017): last sent, send it again; last sent plus 1, send the next ..; FFFF, silence, granted; any other,
--- 22"; "code FFFF means stop, behind 65,534 too" (document 02, Req 08), so that it is judged first
+-- "Code (DDP_017): last sent, send it again; last sent plus 1, send the next ..; FFFF, silence, granted; any other, 22"
 unfoldable pub on_code : AnswerName → SubMessage → Place → AckCode → Reaction
 on_code name last sent c =
-    cond (same_code c stop_code) AnswerStopped
-    (cond (same_code c (repeat_of last)) (AnswerSent name last sent)
+    cond (same_code c (repeat_of last)) (AnswerSent name last sent)
     (cond (same_code c (acknowledge_of last)) (send_next name last sent)
+    (cond (same_code c stop_code) AnswerStopped
     (Negative 0x83 0x22)))
 
 -- only an answer that is being sent can be acknowledged; sent is where it lies

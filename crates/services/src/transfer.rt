@@ -80,21 +80,19 @@ fn send_next(name: AnswerName, last: SubMessage, place: Place) -> Reaction
     Reaction::AnswerSent(name, split::codes::next(last), place)
 }
 
-// A code while an answer is being sent (DDP_017). FFFF comes first: behind 65,534 it is last sent plus 1 too. The codes
-// of the next and of the last one are never equal, and the usual one is asked for first.
+// A code while an answer is being sent (DDP_017).
 fn on_code(name: AnswerName, last: SubMessage, place: Place, code: AckCode) -> Reaction
     ensures { result ≡ on_code name last place code }
 {
     let c = code.0;
-    let next = split::codes::acknowledge(last).0;
-    if c == split::codes::stop().0 {
-        return Reaction::AnswerStopped;
-    }
-    if c == next {
-        return send_next(name, last, place);
-    }
     if c == split::codes::repeat(last).0 {
         return Reaction::AnswerSent(name, last, place);
+    }
+    if c == split::codes::acknowledge(last).0 {
+        return send_next(name, last, place);
+    }
+    if c == split::codes::stop().0 {
+        return Reaction::AnswerStopped;
     }
     Reaction::Negative(ACKNOWLEDGE, CONDITIONS_WRONG)
 }

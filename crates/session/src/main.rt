@@ -36,7 +36,7 @@ fn compared(session: Session, k: usize, store: &[u8], room: &[u8]) {
     let tool = session.tool;
     let outcome = tool.outcome;
     let held = tool.held as usize;
-    let answer = store::call::lookup(store, name_at(k));
+    let answer = store::read::lookup(store, name_at(k));
     if ends::is_done(outcome) {
         print::number(b": done, held ", held);
     }

@@ -1,15 +1,14 @@
 -- The claims of specs/Claims.antt, each from its theorem.
-use Rattle.std.proofs.Common.{◌≡◌, ℕ, List, length, refl, arith}
+use Rattle.std.proofs.Common.{◌≡◌, ℕ, List, length, arith}
 use Rattle.frame.specs.declared.Addresses.{Addresses}
 use Rattle.frame.specs.declared.End.TheVariants as ends
 use Rattle.frame.specs.Readdressed.{readdressed}
 use Rattle.frame.proofs.GivenLaws.{equal-ones, different-ones, at-equal, at-different}
 use Rattle.frame.proofs.Readdressed.{readdressed-frame}
 use Rattle.split.specs.Split.{sub_field, sub_frame, sub_result_given, sub_out_given}
-use Rattle.split.specs.Claims.{SplitClaims, MostClaims, SubGivenClaims}
+use Rattle.split.specs.Claims.{SplitClaims, SubGivenClaims}
 use Rattle.split.proofs.Theorems.{sub-good, sub-reads-back, count-one, count-split, length-one, length-full, length_last_lem}
-use Rattle.split.proofs.Theorems.{number-reads-back, joined-is-answer, most-data, old-data, count_most_lem, count-all, never-used}
-use Rattle.split.proofs.Theorems.{never-written, never-stop}
+use Rattle.split.proofs.Theorems.{number-reads-back, joined-is-answer, most-data}
 
 pub claims : SplitClaims
 claims =
@@ -24,21 +23,8 @@ claims =
       last_bounds = λ trep d h. rw (count-split (length d) h, length_last_lem trep d h) (omega arith, omega arith);
       number_back = λ trep d k h. number-reads-back trep d h k;
       joined_back = joined-is-answer;
-    }
-
-pub most-claims : MostClaims
-most-claims =
-    record {
       most_data = most-data.0;
       one_more = most-data.1;
-      old_most = old-data.0;
-      old_one_more = old-data.1;
-      count_most = count_most_lem;
-      count_all = count-all;
-      never_used = never-used;
-      never_written = never-written;
-      stop_behind = refl;
-      never_stop = never-stop;
     }
 
 same-frame : (a b : Addresses) (trep k : ℕ) (d : List ℕ) → readdressed a b ends.Tool (sub_frame a trep k d) ≡ sub_frame b trep k d

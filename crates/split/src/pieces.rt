@@ -6,8 +6,8 @@ use crate::SubMessage;
 use octets::numbers::{NO_SUCH, OVER_BOUND};
 use octets::{Counted, Place};
 
-// The most data bytes of an answer: as many as 65,534 sub messages carry.
-pub const DATA_MOST: usize = 16449033;
+// The most data bytes of an answer.
+pub const DATA_MOST: usize = 59998;
 
 // The most data bytes that go in one frame unsplit.
 pub const SINGLE_MOST: usize = 252;
@@ -29,7 +29,7 @@ pub fn count_of(len: usize) -> usize
     if is_split(len) { len / PIECE + 1 } else { 1 }
 }
 
-// How many sub messages an answer with `len` data bytes takes; 8 for over 16,449,033 bytes.
+// How many sub messages an answer with `len` data bytes takes; 8 for over 59,998 bytes.
 pub fn sub_messages(len: usize) -> Counted
     ensures { result ≡ sub_messages len }
 {

@@ -6,10 +6,10 @@ use mathlib.Core.Path.{◌≡◌, refl, sym, ◌∙◌}
 use native.Mathlib.Omega.{arith}
 use native.Mathlib.Decide.{dec_lt}
 use native.Mathlib.Numerals.{add-one}
-use lib.Dec.{eqb, leb}
+use lib.Dec.{leb}
 use lib.ListN.{length, get_or}
 use borrow.Author.Tests.{lt-ltb, le-ltb, le-leb, lt-leb, eq-eqb, ne_eqb}
-use Rattle.fields.specs.BigEndian.{number_of, number_at}
+use Rattle.fields.specs.BigEndian.{number_of}
 use Rattle.octets.specs.Order.{unless}
 use Rattle.octets.specs.Search.{first_from, first_of}
 use Rattle.octets.proofs.SearchLaws.{search-hit, search-end, none-hit, none_end}
@@ -19,90 +19,27 @@ use Rattle.catalog.specs.Name.{day_stored, same_answer}
 use Rattle.catalog.specs.declared.AnswerName.{AnswerName}
 use Rattle.catalog.proofs.NameLaws.{other-day}
 use Rattle.store.specs.declared.Fault.{Fault}
-use Rattle.store.specs.Layout.{Form, answer_most, form_by, is_wide, header_size, entry_size, entry_start, answers, stream_length, stream_start, entry_day, entry_offset}
+use Rattle.store.specs.Layout.{Form, header_size, entry_size, entry_start, answers, stream_length, stream_start, entry_day, entry_offset}
 use Rattle.store.specs.Layout.{entry_length, answer_start, name_at}
 use Rattle.store.specs.Check.{header_fits, counts_fit, filled_to, place_right, places_right, answer_right, answers_right, repeats, names_differ}
 use Rattle.store.specs.Check.{fault_at, no_fault, count_read, misplaced_at, wrong_at, repeat_at, store_fault, store_number}
-use Rattle.store.proofs.FormLaws.{wide-field, old-field, entry-size, entry-below}
+use Rattle.store.proofs.FormLaws.{entry-size, entry-below}
 use Rattle.store.proofs.FactLaws.{whole_is, placed-is, new-passes}
 use Rattle.store.proofs.NumberLaws.{first-13, first-14, first-15, first-16, first-17, first-0, past-13}
 
--- The mark; b and c are its two bytes
+-- the fields of an entry that lies in the buffer, from its bytes; at is where it starts
+module _ (f : Form) (s : List ℕ) (i r at : ℕ) (h : entry_start f i + entry_size f ≤ length s) (e : at ≡ entry_start f i) where
+  pub day-read : r ≡ number_of (get_or s at 0 ∷ get_or s (at + 1) 0 ∷ get_or s (at + 2) 0 ∷ get_or s (at + 3) 0 ∷ []) → r ≡ entry_day f i s
+  day-read q = rw (← e) (read-four at s r 4 (omega (arith, entry-size f)) (omega (arith, entry-size f)) refl q)
 
-module _ (s : List ℕ) (b : ℕ) (e : b ≡ get_or s 0 0) where
-  pub mark-first : (b ≡ 0x_fF → ⊥) → false ≡ is_wide s
-  unfolding is_wide
-  mark-first h = rw (← e, ne_eqb b 0x_fF h)
+  module _ (two : f.width ≡ 2) where
+    pub offset_read : r ≡ number_of (get_or s (at + 4) 0 ∷ get_or s (at + 4 + 1) 0 ∷ []) → r ≡ entry_offset f i s
+    offset_read q = rw (← e) (read-two (at + 4) s r f.width (omega (arith, entry-size f)) (omega (arith, entry-size f)) two q)
 
-  pub mark-second : (c : ℕ) → b ≡ 0x_fF → c ≡ get_or s 1 0 → eqb c 0x_fF ≡ is_wide s
-  unfolding is_wide
-  mark-second c h q = rw (← e, eq-eqb b 0x_fF h, ← q)
-
--- The fields; k is the width and m the mark's length that the code has
-
-pub field_of : (f : Form) (s : List ℕ) (r k at : ℕ) → k ≡ f.width → r ≡ number_at k at s → r ≡ number_at f.width at s
-field_of f s r k at e q = rw (← e) q
-
-module _ (f : Form) (s : List ℕ) (r k m n : ℕ) where
-  pub field_at : m ≡ length f.mark → r ≡ number_at f.width m s → r ≡ answers f s
-  field_at e q = rw (← e) q
-
-  pub field-behind : m ≡ length f.mark → k ≡ f.width → r ≡ number_at f.width (m + k) s → r ≡ stream_length f s
-  field-behind e d q = rw (← e, ← d) (rw (← d) at q)
-
-  pub start_of : n ≡ answers f s → r ≡ entry_start f n → r ≡ stream_start f s
-  start_of e q = rw (← e) q
-
--- the number in a field that lies in the buffer, from its bytes
-module _ (w : Bool) (s : List ℕ) (at : ℕ) (h : at + (form_by w).width ≤ length s) where
-  wide-within : w ≡ true → at + 4 ≤ length s
-  wide-within e = omega (arith, wide-field w e)
-
-  old-within : w ≡ false → at + 2 ≤ length s
-  old-within e = omega (arith, old-field w e)
-
-  pub wide-first : w ≡ true → at < length s
-  wide-first e = omega (arith, wide-within e)
-
-  pub wide-byte : (i : ℕ) → w ≡ true → i < 4 → at + i < length s
-  wide-byte i e l = omega (arith, wide-within e)
-
-  pub old-first : w ≡ false → at < length s
-  old-first e = omega (arith, old-within e)
-
-  pub old-byte : (i : ℕ) → w ≡ false → i < 2 → at + i < length s
-  old-byte i e l = omega (arith, old-within e)
-
-  pub wide_read : (r : ℕ) → w ≡ true → r ≡ number_of (get_or s at 0 ∷ get_or s (at + 1) 0 ∷ get_or s (at + 2) 0 ∷ get_or s (at + 3) 0 ∷ [])
-      → r ≡ number_at (form_by w).width at s
-  wide_read r e q = rw (← wide-field w e) (read-four at s r 4 (omega (arith, wide-within e)) (omega (arith, wide-within e)) refl q)
-
-  pub old-read : (r : ℕ) → w ≡ false → r ≡ number_of (get_or s at 0 ∷ get_or s (at + 1) 0 ∷ []) → r ≡ number_at (form_by w).width at s
-  old-read r e q = rw (← old-field w e) (read-two at s r 2 (omega (arith, old-within e)) (omega (arith, old-within e)) refl q)
-
--- the fields of an entry that lies in the buffer; at is where it starts
-module _ (f : Form) (s : List ℕ) (i at : ℕ) (h : entry_start f i + entry_size f ≤ length s) (e : at ≡ entry_start f i) where
-  pub day-first : at < length s
-  day-first = omega (arith, entry-size f)
-
-  pub day-byte : (j : ℕ) → j < 4 → at + j < length s
-  day-byte j l = omega (arith, entry-size f)
-
-  pub day-read : (r : ℕ) → r ≡ number_of (get_or s at 0 ∷ get_or s (at + 1) 0 ∷ get_or s (at + 2) 0 ∷ get_or s (at + 3) 0 ∷ []) → r ≡ entry_day f i s
-  day-read r q = rw (← e) (read-four at s r 4 (omega (arith, entry-size f)) (omega (arith, entry-size f)) refl q)
-
-  pub offset-in : at + 4 + f.width ≤ length s
-  offset-in = omega (arith, entry-size f)
-
-  pub offset_read : (r : ℕ) → r ≡ number_at f.width (at + 4) s → r ≡ entry_offset f i s
-  offset_read r q = rw (← e) q
-
-  module _ (k : ℕ) (d : k ≡ f.width) where
-    pub length-in : at + 4 + k + f.width ≤ length s
-    length-in = omega (arith, entry-size f)
-
-    pub length-read : (r : ℕ) → r ≡ number_at f.width (at + 4 + k) s → r ≡ entry_length f i s
-    length-read r q = rw (← e, ← d) (rw (← d) at q)
+    pub length-read : r ≡ number_of (get_or s (at + 4 + 2) 0 ∷ get_or s (at + 4 + 2 + 1) 0 ∷ []) → r ≡ entry_length f i s
+    length-read q =
+        let p : entry_start f i + 4 + f.width ≡ at + 4 + 2 = omega arith in
+        rw p (read-two (at + 4 + 2) s r f.width (omega (arith, entry-size f)) (omega (arith, entry-size f)) two q)
 
 -- which entries lie in it
 module _ (f : Form) (s : List ℕ) where
@@ -159,10 +96,9 @@ module _ (f : Form) (s : List ℕ) where
   unfolding header_fits
   header-short h e l = rw (← e, lt-leb h (length s) l)
 
-  pub header_is : (h n b t : ℕ) → h ≡ header_size f → h ≤ length s → n ≡ answers f s → b ≡ entry_start f n → t ≡ stream_length f s
-      → leb (b + t) (length s) ≡ header_fits f s
+  pub header_is : (h b t : ℕ) → h ≡ header_size f → h ≤ length s → b ≡ stream_start f s → t ≡ stream_length f s → leb (b + t) (length s) ≡ header_fits f s
   unfolding header_fits
-  header_is h n b t e l c p q = rw (le-leb (header_size f) (length s) (omega arith), ← c, ← p, ← q)
+  header_is h b t e l p q = rw (le-leb (header_size f) (length s) (omega arith), p, q)
 
   pub count-short : (h : ℕ) → h ≡ header_size f → length s < h → 0 ≡ count_read f s
   unfolding count_read
@@ -172,18 +108,13 @@ module _ (f : Form) (s : List ℕ) where
   unfolding count_read
   count-is h n e l q = rw (← e, le-leb h (length s) l) q
 
-  pub counts_of : (n t : ℕ) (r : Bool) → n ≡ answers f s → t ≡ stream_length f s → r ≡ (leb n f.answers_most && leb t f.stream_most)
-      → r ≡ counts_fit f s
+  pub counts-many : (n : ℕ) → n ≡ answers f s → f.answers_most < n → false ≡ counts_fit f s
   unfolding counts_fit
-  counts_of n t r p q e = rw (← p, ← q) e
+  counts-many n p h = rw (← p, lt-leb n f.answers_most h)
 
--- the bounds; m and k are the form's, n and t what the code read
-module _ (w : Bool) (m n t : ℕ) (most : m ≡ (form_by w).answers_most) where
-  pub counts-many : m < n → false ≡ (leb n (form_by w).answers_most && leb t (form_by w).stream_most)
-  counts-many h = rw (← most, lt-leb n m h)
-
-  pub counts-is : (k : ℕ) → k ≡ (form_by w).stream_most → n ≤ m → leb t k ≡ (leb n (form_by w).answers_most && leb t (form_by w).stream_most)
-  counts-is k e h = rw (← most, ← e, le-leb n m h)
+  pub counts-is : (n t : ℕ) → n ≡ answers f s → t ≡ stream_length f s → n ≤ f.answers_most → leb t f.stream_most ≡ counts_fit f s
+  unfolding counts_fit
+  counts-is n t p q h = rw (← p, ← q, le-leb n f.answers_most h)
 
 -- Places: the entries before i end at `end`
 
@@ -214,13 +145,9 @@ module _ (f : Form) (s : List ℕ) where
         unfolding place_right
         place_short h = rw (← off, ← filled, ← len, eq-eqb o end here, lt-leb 2 l h)
 
-        pub place-long : 2 ≤ l → answer_most < l → false ≡ place_right f i s
+        pub place_is : (t : ℕ) → t ≡ stream_length f s → 2 ≤ l → leb (end + l) t ≡ place_right f i s
         unfolding place_right
-        place-long least h = rw (← off, ← filled, ← len, eq-eqb o end here, le-leb 2 l least, lt-leb l answer_most h)
-
-        pub place_is : (t : ℕ) → t ≡ stream_length f s → 2 ≤ l → l ≤ answer_most → leb (end + l) t ≡ place_right f i s
-        unfolding place_right
-        place_is t stream least most = rw (← off, ← filled, ← len, ← stream, eq-eqb o end here, le-leb 2 l least, le-leb l answer_most most)
+        place_is t stream long = rw (← off, ← filled, ← len, ← stream, eq-eqb o end here, le-leb 2 l long)
 
   -- an entry that is misplaced, or none and the stream filled or not
   module _ (n : ℕ) (p : n ≡ answers f s) where

@@ -1,6 +1,6 @@
 -- The claims of specs/Claims.antt, each from its theorem.
 use Rattle.store.specs.Layout.{Form, Sized}
-use Rattle.store.specs.Claims.{NumberClaims, ListClaims, OldFormClaims, StoreClaims}
+use Rattle.store.specs.Claims.{NumberClaims, ListClaims, NarrowClaims, StoreClaims}
 use Rattle.store.proofs.ContentsLaws.{contents-holdable}
 use Rattle.store.proofs.ListLaws.{is_among_lem, answer-of}
 use Rattle.store.proofs.OwnBytes.{own-bytes}
@@ -9,8 +9,7 @@ use Rattle.store.proofs.Refusals.{broken-number, number-broken, lookup-fault, he
 use Rattle.store.proofs.Refusals.{held-not-five, lookup-six, answer-either, unlisted-number, number-unlisted}
 use Rattle.store.proofs.Faults.{fault-claims}
 use Rattle.store.proofs.Days.{day-claims}
-use Rattle.store.proofs.Forms.{form-claims, form-examples}
-use Rattle.store.proofs.OldFormLaws.{empty-is, empty-unbroken, empty-contents, w12-is, fault-examples}
+use Rattle.store.proofs.NarrowLaws.{empty-is, empty-unbroken, empty-contents, w12-is, fault-examples}
 
 numbers : (f : Form) → NumberClaims f
 numbers f =
@@ -42,8 +41,8 @@ list f sized =
       none_left = λ k s z. none_left_lem f s z k;
     }
 
-old-form : OldFormClaims
-old-form = record { empty = empty-is; empty_unbroken = empty-unbroken; empty_contents = empty-contents; w12 = w12-is }
+narrow-form : NarrowClaims
+narrow-form = record { empty = empty-is; empty_unbroken = empty-unbroken; empty_contents = empty-contents; w12 = w12-is }
 
 pub claims : StoreClaims
 claims =
@@ -55,7 +54,5 @@ claims =
       twelve_only = answer-either;
       list = list;
       days = day-claims;
-      forms = form-claims;
-      form_examples = form-examples;
-      old = old-form;
+      narrow_form = narrow-form;
     }

@@ -25,7 +25,7 @@ use Rattle.store.specs.Read.{position}
 use Rattle.store.specs.Contents.{Stored, name_for, nothing, back_to_back, offset_of, stored_at, contents, Listed, Holdable}
 use Rattle.store.proofs.AnswerLaws.{answer-long, answer-begun, answer-allowed, answer-named}
 use Rattle.store.proofs.FactLaws.{placed-passes, new-passes}
-use Rattle.store.proofs.StoreLaws.{unbroken, unbroken-zero, held, places-fill, answer-length, answer-most, position-of}
+use Rattle.store.proofs.StoreLaws.{unbroken, unbroken-zero, held, places-fill, answer-length, position-of}
 use Rattle.store.proofs.WrittenLaws.{Reads, back-append, answer-inside, answer-part}
 
 -- one answer further in a list
@@ -104,8 +104,7 @@ module _ (f : Form) (gs : List Stored) (s : List ℕ) (fit : Holdable f gs) (rea
       placed-passes f s i
       (record {
         offset = reads.offsets i h ∙ sym e;
-        least = omega (arith, long i h);
-        most = omega (arith, fit.each i h);
+        long = omega (arith, long i h);
         inside = omega (arith, answer-inside gs i h, reads.total);
       })
 
@@ -214,7 +213,7 @@ module _ (f : Form) (s : List ℕ) (z : store_number f s ≡ 0) where
   pub stored-name : (i : ℕ) → i < n → name_at f i s ≡ name_for (stored_at f i s)
   unfolding name_at answer_at
   stored-name i h =
-      let t = byte-in (answer_start f i s) (entry_length f i s) 1 s (omega (arith, (held f s z i h).least)) in
+      let t = byte-in (answer_start f i s) (entry_length f i s) 1 s (omega (arith, (held f s z i h).long)) in
       rw t
 
   -- of bytes, it may hold them
@@ -226,10 +225,10 @@ module _ (f : Form) (s : List ℕ) (z : store_number f s ≡ 0) where
         let l = answer-length f s z i h in
         let b : ℕ = answer_start f i s in
         let m : ℕ = entry_length f i s in
-        let first : get_or (answer_at f i s) 0 0 ≡ 0x76 = sym (byte-in b m 0 s (omega (arith, k.least))) ∙ ap (λ (j : ℕ). get_or s j 0) (add-zero b) ∙ k.begins in
+        let first : get_or (answer_at f i s) 0 0 ≡ 0x76 = sym (byte-in b m 0 s (omega (arith, k.long))) ∙ ap (λ (j : ℕ). get_or s j 0) (add-zero b) ∙ k.begins in
         record {
           in_bytes = record { bytes = bytes-part b m s bytes; day = number_fits 4 (entry_start f i) s bytes };
-          number = sym (answer-named (answer_at f i s) (stored_at f i s).day 0 (omega (arith, k.least)) first
+          number = sym (answer-named (answer_at f i s) (stored_at f i s).day 0 (omega (arith, k.long)) first
               (rw (← stored-name i h) (sym (stored-allowed (name_at f i s) k.listed k.day))));
           day = rw (← stored-name i h) k.day;
         }
@@ -248,7 +247,6 @@ module _ (f : Form) (s : List ℕ) (z : store_number f s ≡ 0) where
         record {
           listed = λ i h. rw (contents-at f s i (in_list i h)) (stored-listed i (in_list i h));
           different = differ;
-          each = λ i h. rw (contents-at f s i (in_list i h)) (answer-most f s z i (in_list i h));
           count = omega (arith, contents-length f s, (unbroken f s z).count);
           stream = omega (arith, all-filled, (unbroken f s z).stream);
         }

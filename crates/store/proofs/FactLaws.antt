@@ -14,9 +14,9 @@ use Rattle.octets.proofs.SearchLaws.{first_holds, first-before, first-least, non
 use Rattle.catalog.specs.Table.{listed}
 use Rattle.catalog.specs.Name.{day_stored, same_answer}
 use Rattle.catalog.proofs.NameLaws.{same_self, same-is, same_not}
-use Rattle.store.specs.Layout.{Form, answer_most, header_size, answers, stream_length, store_length, entry_offset, entry_length, answer_start, name_at}
+use Rattle.store.specs.Layout.{Form, header_size, answers, stream_length, store_length, entry_offset, entry_length, answer_start, name_at}
 use Rattle.store.specs.Check.{header_fits, counts_fit, filled_to, place_right, answer_right, repeats}
-use Rattle.store.specs.Faults.{Whole, WithinBounds, Placed, Misplaced, gap, short, long, past, Begun, Misbegun, not_first, not_trep, not_day, New, Repeated}
+use Rattle.store.specs.Faults.{Whole, WithinBounds, Placed, Misplaced, gap, short, past, Begun, Misbegun, not_first, not_trep, not_day, New, Repeated}
 
 module _ (f : Form) (s : List ℕ) where
   -- Header and counts
@@ -69,9 +69,8 @@ module _ (f : Form) (s : List ℕ) where
         let q = and_right (eqb (entry_offset f i s) (filled_to f i s)) _ h in
         record {
           offset = eqb-true _ _ (and_left (eqb (entry_offset f i s) (filled_to f i s)) _ h);
-          least = leb-true _ _ (and_left (leb 2 (entry_length f i s)) _ q);
-          most = leb-true _ _ (and_left (leb (entry_length f i s) answer_most) _ (and_right (leb 2 (entry_length f i s)) _ q));
-          inside = leb-true _ _ (and_right (leb (entry_length f i s) answer_most) _ (and_right (leb 2 (entry_length f i s)) _ q));
+          long = leb-true _ _ (and_left (leb 2 (entry_length f i s)) _ q);
+          inside = leb-true _ _ (and_right (leb 2 (entry_length f i s)) _ q);
         }
 
     pub placed-passes : Placed f i s → place_right f i s ≡ true
@@ -79,34 +78,27 @@ module _ (f : Form) (s : List ℕ) where
     placed-passes p =
         rw (
           eq-eqb (entry_offset f i s) (filled_to f i s) p.offset,
-          le-leb 2 (entry_length f i s) p.least,
-          le-leb (entry_length f i s) answer_most p.most,
+          le-leb 2 (entry_length f i s) p.long,
           le-leb (filled_to f i s + entry_length f i s) (stream_length f s) p.inside,
         )
 
     pub misplaced-is : place_right f i s ≡ false → Misplaced f i s
     unfolding place_right
-    misplaced-is =
-        go (eqb (entry_offset f i s) (filled_to f i s)) (leb 2 (entry_length f i s)) (leb (entry_length f i s) answer_most) refl refl refl
+    misplaced-is = go (eqb (entry_offset f i s) (filled_to f i s)) (leb 2 (entry_length f i s)) refl refl
       where
-        go : (o l m : Bool) → eqb (entry_offset f i s) (filled_to f i s) ≡ o → leb 2 (entry_length f i s) ≡ l → leb (entry_length f i s) answer_most ≡ m
-            → (o && (l && (m && leb (filled_to f i s + entry_length f i s) (stream_length f s)))) ≡ false → Misplaced f i s
-        go false l m eo el em h = gap (eqb-false _ _ eo)
-        go true false m eo el em h = short (leb-false _ _ el)
-        go true true false eo el em h = long (leb-false _ _ em)
-        go true true true eo el em h = past (leb-false _ _ h)
+        go : (o l : Bool) → eqb (entry_offset f i s) (filled_to f i s) ≡ o → leb 2 (entry_length f i s) ≡ l
+            → (o && (l && leb (filled_to f i s + entry_length f i s) (stream_length f s))) ≡ false → Misplaced f i s
+        go false l eo el h = gap (eqb-false _ _ eo)
+        go true false eo el h = short (leb-false _ _ el)
+        go true true eo el h = past (leb-false _ _ h)
 
     pub misplaced-fails : Misplaced f i s → place_right f i s ≡ false
     unfolding place_right
     misplaced-fails (gap h) = rw (ne_eqb (entry_offset f i s) (filled_to f i s) h)
     misplaced-fails (short h) = and-false (eqb (entry_offset f i s) (filled_to f i s)) _ (rw (lt-leb 2 (entry_length f i s) h))
-    misplaced-fails (long h) =
-        and-false (eqb (entry_offset f i s) (filled_to f i s)) _
-        (and-false (leb 2 (entry_length f i s)) _ (rw (lt-leb (entry_length f i s) answer_most h)))
     misplaced-fails (past h) =
         and-false (eqb (entry_offset f i s) (filled_to f i s)) _
-        (and-false (leb 2 (entry_length f i s)) _
-        (and-false (leb (entry_length f i s) answer_most) _ (lt-leb (filled_to f i s + entry_length f i s) (stream_length f s) h)))
+        (and-false (leb 2 (entry_length f i s)) _ (lt-leb (filled_to f i s + entry_length f i s) (stream_length f s) h))
 
     -- One answer
 

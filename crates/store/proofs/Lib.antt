@@ -3,7 +3,6 @@ pub mod FormLaws
 pub mod NumberLaws
 pub mod FactLaws
 pub mod CheckLaws
-pub mod CallLaws
 pub mod ReadLaws
 pub mod AnswerLaws
 pub mod PositionLaws
@@ -15,7 +14,6 @@ pub mod OwnBytes
 pub mod Theorems
 pub mod Faults
 pub mod Refusals
-pub mod OldFormLaws
-pub mod Forms
+pub mod NarrowLaws
 pub mod Days
 pub mod Claims

@@ -20,8 +20,7 @@ use Rattle.catalog.specs.Name.{day_stored, rounded}
 use Rattle.catalog.proofs.NameLaws.{same_self}
 use Rattle.catalog.proofs.DayLaws.{rounded-trep}
 use Rattle.catalog.specs.declared.AnswerName.{AnswerName}
-use Rattle.store.specs.Layout.{Form, answer_most, header_size, answers, stream_length, store_length, entry_offset, entry_length, answer_start, stream_of}
-use Rattle.store.specs.Layout.{answer_at, name_at}
+use Rattle.store.specs.Layout.{Form, header_size, answers, stream_length, store_length, entry_offset, entry_length, answer_start, stream_of, answer_at, name_at}
 use Rattle.store.specs.Check.{header_fits, counts_fit, filled_to, place_right, places_right, answer_right, answers_right, repeats, names_differ, store_number}
 use Rattle.store.specs.Faults.{IsFault, WithinBounds}
 use Rattle.store.specs.Claims.{Missing}
@@ -82,8 +81,7 @@ module _ (f : Form) where
 
   pub record Held (i : ℕ) (s : List ℕ) : Type 0 where
     pub placed : entry_offset f i s ≡ filled_to f i s
-    pub least : 2 ≤ entry_length f i s
-    pub most : entry_length f i s ≤ answer_most
+    pub long : 2 ≤ entry_length f i s
     pub inside : entry_offset f i s + entry_length f i s ≤ stream_length f s
     pub begins : get_or s (answer_start f i s) 0 ≡ 0x76
     pub listed : listed (name_at f i s).trep ≡ true
@@ -110,8 +108,7 @@ module _ (f : Form) where
       let a = begun-is f s i (not-false _ (none-at (λ j. not (answer_right f j s)) (answers f s) u.right i h)) in
       record {
         placed = p.offset;
-        least = p.least;
-        most = p.most;
+        long = p.long;
         inside = omega (arith, p.offset, p.inside);
         begins = a.first;
         listed = a.trep;
@@ -137,10 +134,10 @@ module _ (f : Form) where
 
     -- from 2 bytes to the bound
     pub answer-least : 2 ≤ length (answer_at f i s)
-    answer-least = rw answer-length (held s zero i below).least
+    answer-least = rw answer-length (held s zero i below).long
 
-    pub answer-most : length (answer_at f i s) ≤ answer_most
-    answer-most = rw answer-length (held s zero i below).most
+    pub answer-most : length (answer_at f i s) ≤ f.stream_most
+    answer-most = rw answer-length (omega (arith, (held s zero i below).inside, (unbroken s zero).stream))
 
     -- 76 and the TREP of its name, then its data
     pub answer-begins : answer_at f i s ≡ 0x76 ∷ (name_at f i s).trep ∷ drop 2 (answer_at f i s)
@@ -151,8 +148,8 @@ module _ (f : Form) where
         let b = answer_start f i s in
         let h = held s zero i below in
         let first : get_or x 0 0 ≡ 0x76 =
-        sym (byte-in b (entry_length f i s) 0 s (omega (arith, h.least))) ∙ ap (λ (k : ℕ). get_or s k 0) (add-zero b) ∙ h.begins in
-        let second : get_or x 1 0 ≡ get_or s (b + 1) 0 = sym (byte-in b (entry_length f i s) 1 s (omega (arith, h.least))) in
+        sym (byte-in b (entry_length f i s) 0 s (omega (arith, h.long))) ∙ ap (λ (k : ℕ). get_or s k 0) (add-zero b) ∙ h.begins in
+        let second : get_or x 1 0 ≡ get_or s (b + 1) 0 = sym (byte-in b (entry_length f i s) 1 s (omega (arith, h.long))) in
         drop-cons x 0 0 (omega arith) ∙ ap (λ (r : List ℕ). get_or x 0 0 ∷ r) (drop-cons x 1 0 (omega arith)) ∙ rw (first, second)
 
     -- no two answers have one name, so a search finds each of them
@@ -196,7 +193,7 @@ module _ (f : Form) where
         ≡ record { number = 0; start = answer_start f (position f (rounded name) s) s; len = entry_length f (position f (rounded name) s) s }
     pub part : lookup_part f name s ≡ answer_at f (position f (rounded name) s) s
     pub least : 2 ≤ length (lookup_part f name s)
-    pub most : length (lookup_part f name s) ≤ answer_most
+    pub most : length (lookup_part f name s) ≤ f.stream_most
     pub begins : lookup_part f name s ≡ 0x76 ∷ name.trep ∷ drop 2 (lookup_part f name s)
 
   -- what a lookup that is not refused gives: an answer below the count, kept under that name, within the bounds, 76 and the TREP first

@@ -7,7 +7,7 @@ use Rattle.octets.specs.Numbers.{done, store_short, store_bounds, store_entry, s
 use Rattle.catalog.specs.Table.{listed}
 use Rattle.catalog.specs.Name.{day_stored, same_answer}
 use Rattle.store.specs.declared.Fault.{Fault}
-use Rattle.store.specs.Layout.{Form, answer_most, header_size, answers, stream_length, entry_offset, entry_length}
+use Rattle.store.specs.Layout.{Form, header_size, answers, stream_length, entry_offset, entry_length}
 use Rattle.store.specs.Layout.{store_length, answer_start, name_at}
 
 module _ (f : Form) where
@@ -15,7 +15,7 @@ module _ (f : Form) where
   unfoldable pub header_fits : List ℕ → Bool
   header_fits s = leb (header_size f) (length s) && leb (store_length f s) (length s)
 
-  -- "n (0 to 64)", "t (0 to 60,000)": the form's bounds
+  -- "n (0 to 64)", "t (0 to 60,000)"
   unfoldable pub counts_fit : List ℕ → Bool
   counts_fit s = leb (answers f s) f.answers_most && leb (stream_length f s) f.stream_most
 
@@ -24,13 +24,11 @@ module _ (f : Form) where
   filled_to zero s = 0
   filled_to (suc i) s = filled_to i s + entry_length f i s
 
-  -- "offsets without gap", "length (.. at least 2)"; "A length under 2 or an end past the stream length is 15" (Req 06);
-  -- "one answer up to 16,449,035 bytes (a longer entry is 15)" (Req 08)
+  -- "offsets without gap", "length (.. at least 2)"; "A length under 2 or an end past the stream length is 15"
   unfoldable pub place_right : ℕ → List ℕ → Bool
   place_right i s =
       eqb (entry_offset f i s) (filled_to i s)
-      && (leb 2 (entry_length f i s)
-      && (leb (entry_length f i s) answer_most && leb (filled_to i s + entry_length f i s) (stream_length f s)))
+      && (leb 2 (entry_length f i s) && leb (filled_to i s + entry_length f i s) (stream_length f s))
 
   -- "They fill exactly t bytes"
   unfoldable pub places_right : List ℕ → Bool

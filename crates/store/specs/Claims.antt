@@ -7,10 +7,9 @@ use Rattle.octets.specs.Buffer.{part_at}
 use Rattle.catalog.specs.Table.{listed}
 use Rattle.catalog.specs.Name.{day_named, rounded}
 use Rattle.catalog.specs.declared.AnswerName.{AnswerName}
-use Rattle.store.specs.Layout.{Form, Sized, old_form, answers, store_length, name_at}
+use Rattle.store.specs.Layout.{Form, Sized, narrow, answers, store_length, name_at}
 use Rattle.store.specs.Check.{header_fits, counts_fit, places_right, answers_right, names_differ, store_number}
 use Rattle.store.specs.Days.{DayClaims}
-use Rattle.store.specs.Forms.{FormClaims, FormExamples}
 use Rattle.store.specs.Faults.{IsFault, FaultClaims, FaultExamples}
 use Rattle.store.specs.Read.{lookup_number, lookup_part, stream_place, stream_part, count_held, held_answer}
 use Rattle.store.specs.Answer.{name_of, answer_number}
@@ -109,13 +108,13 @@ store12 =
     ∷ 0x00 ∷ 0x00 ∷ 0x00 ∷ 0x00 ∷ 0x00 ∷ 0x00 ∷ 0x00 ∷ 0x04
     ∷ 0x76 ∷ 0x00 ∷ 0x02 ∷ 0x02 ∷ []
 
-pub record OldFormClaims : Type 0 where
+pub record NarrowClaims : Type 0 where
   -- the store of no answers is four zero bytes: with any bytes behind them they are unbroken and hold nothing
-  pub empty : store_of old_form [] ≡ 0 ∷ 0 ∷ 0 ∷ 0 ∷ []
-  pub empty_unbroken : (rest : List ℕ) → store_number old_form (0 ∷ 0 ∷ 0 ∷ 0 ∷ rest) ≡ done
-  pub empty_contents : (rest : List ℕ) → contents old_form (0 ∷ 0 ∷ 0 ∷ 0 ∷ rest) ≡ []
+  pub empty : store_of narrow [] ≡ 0 ∷ 0 ∷ 0 ∷ 0 ∷ []
+  pub empty_unbroken : (rest : List ℕ) → store_number narrow (0 ∷ 0 ∷ 0 ∷ 0 ∷ rest) ≡ done
+  pub empty_contents : (rest : List ℕ) → contents narrow (0 ∷ 0 ∷ 0 ∷ 0 ∷ rest) ≡ []
   -- "store with 02 02 under TREP 00" (W12)
-  pub w12 : store_of old_form (record { answer = 0x76 ∷ 0x00 ∷ 0x02 ∷ 0x02 ∷ []; day = 0 } ∷ []) ≡ store12
+  pub w12 : store_of narrow (record { answer = 0x76 ∷ 0x00 ∷ 0x02 ∷ 0x02 ∷ []; day = 0 } ∷ []) ≡ store12
 
 pub record StoreClaims : Type 0 where
   pub numbers : (f : Form) → NumberClaims f
@@ -127,7 +126,4 @@ pub record StoreClaims : Type 0 where
       → (answer_number answer day ≡ done) ⊎ (answer_number answer day ≡ not_in_table)
   pub list : (f : Form) → Sized f → ListClaims f
   pub days : (f : Form) → DayClaims f
-  -- the two forms of document 02's Req 08
-  pub forms : FormClaims
-  pub form_examples : FormExamples
-  pub old : OldFormClaims
+  pub narrow_form : NarrowClaims

@@ -9,7 +9,7 @@ use Rattle.octets.specs.Search.{first_of, any_of}
 use Rattle.octets.specs.Values.{up_to}
 use Rattle.catalog.specs.Name.{day_stored, rounded, same_answer}
 use Rattle.catalog.specs.declared.AnswerName.{AnswerName}
-use Rattle.store.specs.Layout.{Form, answer_most, answers, entry_start, entry_day, answer_at}
+use Rattle.store.specs.Layout.{Form, answers, entry_start, entry_day, answer_at}
 use Rattle.store.specs.Answer.{name_of, answer_number}
 
 -- an answer, 76 and TREP first, and the day of its entry
@@ -102,9 +102,7 @@ pub record Holdable (f : Form) (gs : List Stored) : Type 0 where
   -- "No two share TREP and day"
   pub different : (i j : ℕ) → i < j → j < length gs
       → name_for (get_or gs i nothing) ≡ name_for (get_or gs j nothing) → ⊥
-  -- "one answer up to 16,449,035 bytes" (document 02, Req 08)
-  pub each : (i : ℕ) → i < length gs → length (get_or gs i nothing).answer ≤ answer_most
-  -- "n (0 to 64)", "t (0 to 60,000)": the form's bounds
+  -- "n (0 to 64)", "t (0 to 60,000)"
   pub count : length gs ≤ f.answers_most
   pub stream : length (back_to_back gs) ≤ f.stream_most
 

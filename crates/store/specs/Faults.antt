@@ -4,8 +4,8 @@ use Rattle.std.specs.Prelude.{ℕ, ◌+◌, ◌<◌, ◌≤◌, true, false, Lis
 use Rattle.octets.specs.Numbers.{store_short, store_bounds, store_entry, store_answer, store_twice}
 use Rattle.catalog.specs.Table.{listed}
 use Rattle.catalog.specs.Name.{day_stored}
-use Rattle.store.specs.Layout.{Form, answer_most, old_form, header_size, answers, stream_length, store_length}
-use Rattle.store.specs.Layout.{entry_offset, entry_length, answer_start, name_at}
+use Rattle.store.specs.Layout.{Form, narrow, header_size, answers, stream_length, store_length, entry_offset}
+use Rattle.store.specs.Layout.{entry_length, answer_start, name_at}
 use Rattle.store.specs.Check.{filled_to, fault_at, no_fault, store_fault, store_number}
 
 -- one of the five numbers
@@ -26,18 +26,15 @@ module _ (f : Form) where
     pub count : answers f s ≤ f.answers_most
     pub stream : stream_length f s ≤ f.stream_most
 
-  -- entry i: its offset is the sum of the lengths before it, its length is at least 2 and at most 16,449,035, it ends
-  -- within the stream
+  -- entry i: its offset is the sum of the lengths before it, its length is at least 2, it ends within the stream
   pub record Placed (i : ℕ) (s : List ℕ) : Type 0 where
     pub offset : entry_offset f i s ≡ filled_to f i s
-    pub least : 2 ≤ entry_length f i s
-    pub most : entry_length f i s ≤ answer_most
+    pub long : 2 ≤ entry_length f i s
     pub inside : filled_to f i s + entry_length f i s ≤ stream_length f s
 
   pub data Misplaced (i : ℕ) (s : List ℕ) : Type 0 where
     gap : entry_offset f i s ≢ filled_to f i s → Misplaced i s
     short : entry_length f i s < 2 → Misplaced i s
-    long : answer_most < entry_length f i s → Misplaced i s
     past : stream_length f s < filled_to f i s + entry_length f i s → Misplaced i s
 
   -- every entry, and "They fill exactly t bytes"
@@ -136,40 +133,40 @@ entry_of day offset len = 0x00 ∷ 0x00 ∷ 0x00 ∷ day ∷ 0x00 ∷ offset ∷
 
 pub record FaultExamples : Type 0 where
   -- three bytes, though they seem to count an answer
-  pub no_header : store_fault old_form (0x00 ∷ 0x01 ∷ 0x00 ∷ []) ≡ fault_at store_short 0
+  pub no_header : store_fault narrow (0x00 ∷ 0x01 ∷ 0x00 ∷ []) ≡ fault_at store_short 0
   -- W12's store without its last byte
-  pub cut : store_fault old_form (0x00 ∷ 0x01 ∷ 0x00 ∷ 0x04 ∷ entry_of 0 0 4 ++ (0x76 ∷ 0x00 ∷ 0x02 ∷ []))
+  pub cut : store_fault narrow (0x00 ∷ 0x01 ∷ 0x00 ∷ 0x04 ∷ entry_of 0 0 4 ++ (0x76 ∷ 0x00 ∷ 0x02 ∷ []))
       ≡ fault_at store_short 1
   -- 13 comes before 14: the header alone, and with all that it speaks of
-  pub all_bits : store_fault old_form (0x_fF ∷ 0x_fF ∷ 0x_fF ∷ 0x_fF ∷ []) ≡ fault_at store_short 65535
+  pub all_bits : store_fault narrow (0x_fF ∷ 0x_fF ∷ 0x_fF ∷ 0x_fF ∷ []) ≡ fault_at store_short 65535
   pub all_bits_whole : (rest : List ℕ) → length rest ≡ 589815
-      → store_fault old_form (0x_fF ∷ 0x_fF ∷ 0x_fF ∷ 0x_fF ∷ rest) ≡ fault_at store_bounds 65535
-  pub too_many : store_fault old_form (0x00 ∷ 0x41 ∷ 0x00 ∷ 0x00 ∷ replicate 520 0x00) ≡ fault_at store_bounds 65
+      → store_fault narrow (0x_fF ∷ 0x_fF ∷ 0x_fF ∷ 0x_fF ∷ rest) ≡ fault_at store_bounds 65535
+  pub too_many : store_fault narrow (0x00 ∷ 0x41 ∷ 0x00 ∷ 0x00 ∷ replicate 520 0x00) ≡ fault_at store_bounds 65
   -- no answers and a byte of stream; W12's with a byte of stream more
-  pub stream_alone : store_fault old_form (0x00 ∷ 0x00 ∷ 0x00 ∷ 0x01 ∷ 0x76 ∷ []) ≡ fault_at store_entry 0
+  pub stream_alone : store_fault narrow (0x00 ∷ 0x00 ∷ 0x00 ∷ 0x01 ∷ 0x76 ∷ []) ≡ fault_at store_entry 0
   pub ends_short :
-      store_fault old_form (0x00 ∷ 0x01 ∷ 0x00 ∷ 0x05 ∷ entry_of 0 0 4 ++ (0x76 ∷ 0x00 ∷ 0x02 ∷ 0x02 ∷ 0x00 ∷ []))
+      store_fault narrow (0x00 ∷ 0x01 ∷ 0x00 ∷ 0x05 ∷ entry_of 0 0 4 ++ (0x76 ∷ 0x00 ∷ 0x02 ∷ 0x02 ∷ 0x00 ∷ []))
       ≡ fault_at store_entry 1
   -- the wrong first byte of answer 0 comes after all offsets
   pub offsets_first :
-      store_fault old_form
+      store_fault narrow
       (0x00 ∷ 0x02 ∷ 0x00 ∷ 0x04 ∷ entry_of 0 0 2 ++ (entry_of 0 1 2 ++ (0x75 ∷ 0x00 ∷ 0x76 ∷ 0x01 ∷ [])))
       ≡ fault_at store_entry 1
   -- activities under the second 1
   pub day_wrong :
-      store_fault old_form
+      store_fault narrow
       (0x00 ∷ 0x02 ∷ 0x00 ∷ 0x04 ∷ entry_of 0 0 2 ++ (entry_of 1 2 2 ++ (0x76 ∷ 0x01 ∷ 0x76 ∷ 0x02 ∷ [])))
       ≡ fault_at store_answer 1
   -- activities under the second 86,401 (document 02, Req 03)
   pub second_in_entry :
-      store_fault old_form
+      store_fault narrow
       (0x00 ∷ 0x01 ∷ 0x00 ∷ 0x03
       ∷ 0x00 ∷ 0x01 ∷ 0x51 ∷ 0x81 ∷ 0x00 ∷ 0x00 ∷ 0x00 ∷ 0x03
       ∷ 0x76 ∷ 0x02 ∷ 0x_aA ∷ [])
       ≡ fault_at store_answer 0
   -- answer 2 repeats answer 1, before answer 3 repeats answer 0
   pub first_repeat :
-      store_fault old_form
+      store_fault narrow
       (0x00 ∷ 0x04 ∷ 0x00 ∷ 0x08 ∷ entry_of 0 0 2 ++ (entry_of 0 2 2 ++ (entry_of 0 4 2 ++ (entry_of 0 6 2
       ++ (0x76 ∷ 0x01 ∷ 0x76 ∷ 0x03 ∷ 0x76 ∷ 0x03 ∷ 0x76 ∷ 0x01 ∷ [])))))
       ≡ fault_at store_twice 2

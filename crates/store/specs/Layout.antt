@@ -1,6 +1,5 @@
--- The layout of a bench store, over its form: the width of a field, the bytes in front of the count, and the bounds. A
--- store is old or wide (document 02, Req 08).
-use Rattle.std.specs.Prelude.{ℕ, ◌+◌, ◌*◌, ◌^◌, ◌<◌, Bool, true, cond, ◌&&◌, List, [], ◌∷◌, ◌≡◌, eqb, length, get_or}
+-- The layout of a bench store, over its form: the width of a field, the bytes in front of the count, and the bounds.
+use Rattle.std.specs.Prelude.{ℕ, ◌+◌, ◌*◌, ◌^◌, ◌<◌, true, List, [], ◌≡◌, length, get_or}
 use Rattle.fields.specs.BigEndian.{field_width, number_at}
 use Rattle.octets.specs.Buffer.{part_at}
 use Rattle.catalog.specs.declared.AnswerName.{AnswerName}
@@ -10,8 +9,9 @@ pub record Form : Type 0 where
   pub mark : List ℕ
   -- the width of count, stream length, offset and length
   pub width : ℕ
-  -- the most answers, and the most bytes of the stream
+  -- the most answers, the most bytes of one answer and of the stream
   pub answers_most : ℕ
+  pub answer_most : ℕ
   pub stream_most : ℕ
 
 -- what is asked of a form: fields of two or four bytes, and bounds that fit them
@@ -20,28 +20,10 @@ pub record Sized (f : Form) : Type 0 where
   pub counts : f.answers_most < 256 ^ f.width
   pub streams : f.stream_most < 256 ^ f.width
 
--- "with one answer up to 16,449,035 bytes (a longer entry is 15)" (document 02, Req 08): in both forms, though an old
--- store's stream keeps it lower
-abbrev pub answer_most : ℕ
-answer_most = 16449035
-
--- "Two bytes count of answers n (0 to 64), two bytes stream length t (0 to 60,000)"
-abbrev pub old_form : Form
-old_form = record { mark = []; width = 2; answers_most = 64; stream_most = 60000 }
-
--- "Wide stores have the same fields, each of four bytes, behind the two bytes FF FF"; "Stream bound: 33,554,432"
-abbrev pub wide_form : Form
-wide_form = record { mark = 0x_fF ∷ 0x_fF ∷ []; width = 4; answers_most = 64; stream_most = 33554432 }
-
-unfoldable pub form_by : Bool → Form
-form_by is_wide = cond is_wide wide_form old_form
-
--- ".. FF FF, which no old count can be": the form of a buffer; one under two bytes is old
-unfoldable pub is_wide : List ℕ → Bool
-is_wide s = eqb (get_or s 0 0) 0x_fF && eqb (get_or s 1 0) 0x_fF
-
-abbrev pub form_of : List ℕ → Form
-form_of s = form_by (is_wide s)
+-- "Two bytes count of answers n (0 to 64), two bytes stream length t (0 to 60,000)"; one answer is bounded by the
+-- stream
+abbrev pub narrow : Form
+narrow = record { mark = []; width = 2; answers_most = 64; answer_most = 60000; stream_most = 60000 }
 
 module _ (f : Form) where
   -- count of answers and stream length, behind the mark

@@ -6,5 +6,4 @@ pub mod Read
 pub mod Answer
 pub mod Contents
 pub mod Days
-pub mod Forms
 pub mod Claims

@@ -1,6 +1,5 @@
 // The bench store (document 01, Bench store and stream; DDP_034): its layout, its check, and reading it.
 pub mod answer;
-pub mod call;
 pub mod check;
 pub mod layout;
 pub mod read;
@@ -8,10 +7,10 @@ pub mod read;
 use catalog::AnswerName;
 use octets::Place;
 
-// The most answers that a store holds, and the most bytes of one: 76, TREP and the most data that can be split.
+// The most answers that a store holds, and the most bytes of its stream.
 pub const ANSWERS_MOST: usize = 64;
 
-pub const ANSWER_MOST: usize = 16449035;
+pub const STREAM_MOST: usize = 60000;
 
 // What is broken in a store (document 02, Req 06), and where: the header's count of answers, 0 where the buffer is too
 // short for a header, or the entry from 0. Number 0 and position 0: nothing.

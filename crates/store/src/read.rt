@@ -1,8 +1,9 @@
-// Reading a store of either form: one answer by its name, the whole stream, and the answers one by one.
+// Reading a store: one answer by its name, the whole stream, and the answers one by one.
 ghost use Rattle.std.specs.Prelude.{◌≡◌};
-ghost use Rattle.store.specs.Layout.{form_by};
+ghost use Rattle.store.specs.Layout.{narrow};
 ghost use Rattle.store.specs.Check.{store_number};
-ghost use Rattle.store.specs.Read.{lookup_place, lookup_both, stream_place, count_held, held_answer};
+ghost use Rattle.store.specs.Read.{lookup_number, lookup_place, lookup_both, lookup_part, stream_place};
+ghost use Rattle.store.specs.Read.{stream_part, count_held, held_answer};
 
 use crate::{HeldAnswer, TwoPlaces};
 use catalog::{ABSENT, AnswerName};
@@ -11,43 +12,42 @@ use octets::{Counted, Place};
 
 // Where the answer with this name lies in a store that was checked: 6 where it is not held. Activities are kept under
 // the first second of their day. FF is no TREP, and nothing is looked for.
-fn find(store: &[u8], name: AnswerName, wide: bool) -> Place
-    requires { store_number (form_by wide) store.now ≡ 0 }
-    ensures { result ≡ lookup_place (form_by wide) name store.now }
+fn find(store: &[u8], name: AnswerName) -> Place
+    requires { store_number narrow store.now ≡ 0 }
+    ensures { result ≡ lookup_place narrow name store.now }
 {
     if name.trep == ABSENT {
         return octets::refused_place(NOT_HELD);
     }
     let kept = catalog::rounded(name);
-    let n = crate::layout::answers(store, wide);
-    let stream = crate::layout::entry_start(n, wide);
-    let i = crate::layout::first_named(store, n, kept, stream, wide);
+    let n = crate::layout::answers(store);
+    let i = crate::layout::first_named(store, n, kept);
     if n <= i {
         return octets::refused_place(NOT_HELD);
     }
     Place {
         number: 0,
-        start: crate::layout::answer_start(store, i, stream, wide),
-        len: crate::layout::entry_length(store, i, wide),
+        start: crate::layout::answer_start(store, i),
+        len: crate::layout::entry_length(store, i),
     }
 }
 
 // Where the answer with this name lies: the number of a broken store, 6 where it is not held.
-pub fn locate(store: &[u8], name: AnswerName, wide: bool) -> Place
-    ensures { result ≡ lookup_place (form_by wide) name store.now }
+pub fn locate(store: &[u8], name: AnswerName) -> Place
+    ensures { result ≡ lookup_place narrow name store.now }
 {
-    let number = crate::check::check(store, wide);
+    let number = crate::check::check(store);
     if number != 0 {
         return octets::refused_place(number);
     }
-    find(store, name, wide)
+    find(store, name)
 }
 
 // Where the answers with these two names lie, by one check of the store; each place is what `locate` gives.
-pub fn locate_both(store: &[u8], first: AnswerName, second: AnswerName, wide: bool) -> TwoPlaces
-    ensures { result ≡ lookup_both (form_by wide) first second store.now }
+pub fn locate_both(store: &[u8], first: AnswerName, second: AnswerName) -> TwoPlaces
+    ensures { result ≡ lookup_both narrow first second store.now }
 {
-    let number = crate::check::check(store, wide);
+    let number = crate::check::check(store);
     if number != 0 {
         let nowhere = octets::refused_place(number);
         return TwoPlaces {
@@ -58,46 +58,67 @@ pub fn locate_both(store: &[u8], first: AnswerName, second: AnswerName, wide: bo
     }
     TwoPlaces {
         number: 0,
-        first: find(store, first, wide),
-        second: find(store, second, wide),
+        first: find(store, first),
+        second: find(store, second),
     }
 }
 
-// Where the stream lies (DDP_034), or the number of a broken store.
-pub fn locate_stream(store: &[u8], wide: bool) -> Place
-    ensures { result ≡ stream_place (form_by wide) store.now }
+// The number of a lookup, 0 where `lookup` gives the answer.
+pub fn lookup_number(store: &[u8], name: AnswerName) -> u8
+    ensures { result ≡ lookup_number narrow name store.now }
 {
-    let number = crate::check::check(store, wide);
+    locate(store, name).number
+}
+
+// The answer with this name, 76 and TREP included, as part of the buffer; empty where `locate` refuses it.
+pub fn lookup(store: &[u8], name: AnswerName) -> &[u8]
+    ensures { result.now ≡ lookup_part narrow name store.now }
+{
+    octets::buffer::part(store, locate(store, name))
+}
+
+// Where the stream lies (DDP_034), or the number of a broken store.
+pub fn locate_stream(store: &[u8]) -> Place
+    ensures { result ≡ stream_place narrow store.now }
+{
+    let number = crate::check::check(store);
     if number != 0 {
         return octets::refused_place(number);
     }
     Place {
         number: 0,
-        start: crate::layout::stream_start(store, wide),
-        len: crate::layout::stream_length(store, wide),
+        start: crate::layout::stream_start(store),
+        len: crate::layout::stream_length(store),
     }
 }
 
-// How many answers the store holds, or the number of a broken store.
-pub fn count(store: &[u8], wide: bool) -> Counted
-    ensures { result ≡ count_held (form_by wide) store.now }
+// The stream, as part of the buffer; empty where `locate_stream` refuses it.
+pub fn stream(store: &[u8]) -> &[u8]
+    ensures { result.now ≡ stream_part narrow store.now }
 {
-    let number = crate::check::check(store, wide);
+    octets::buffer::part(store, locate_stream(store))
+}
+
+// How many answers the store holds, or the number of a broken store.
+pub fn count(store: &[u8]) -> Counted
+    ensures { result ≡ count_held narrow store.now }
+{
+    let number = crate::check::check(store);
     if number != 0 {
         return Counted { number, count: 0 };
     }
     Counted {
         number: 0,
-        count: crate::layout::answers(store, wide),
+        count: crate::layout::answers(store),
     }
 }
 
 // Answer `k`, from 0: the number of a broken store, 6 where it holds no more than `k`.
-pub fn held(store: &[u8], k: usize, wide: bool) -> HeldAnswer
-    ensures { result ≡ held_answer (form_by wide) k store.now }
+pub fn held(store: &[u8], k: usize) -> HeldAnswer
+    ensures { result ≡ held_answer narrow k store.now }
 {
     let nothing = AnswerName { trep: 0, day: 0 };
-    let number = crate::check::check(store, wide);
+    let number = crate::check::check(store);
     if number != 0 {
         return HeldAnswer {
             number,
@@ -106,7 +127,7 @@ pub fn held(store: &[u8], k: usize, wide: bool) -> HeldAnswer
             len: 0,
         };
     }
-    if crate::layout::answers(store, wide) <= k {
+    if crate::layout::answers(store) <= k {
         return HeldAnswer {
             number: NOT_HELD,
             name: nothing,
@@ -114,11 +135,10 @@ pub fn held(store: &[u8], k: usize, wide: bool) -> HeldAnswer
             len: 0,
         };
     }
-    let stream = crate::layout::stream_start(store, wide);
     HeldAnswer {
         number: 0,
-        name: crate::layout::name_at(store, k, stream, wide),
-        start: crate::layout::answer_start(store, k, stream, wide),
-        len: crate::layout::entry_length(store, k, wide),
+        name: crate::layout::name_at(store, k),
+        start: crate::layout::answer_start(store, k),
+        len: crate::layout::entry_length(store, k),
     }
 }

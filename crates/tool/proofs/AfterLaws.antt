@@ -13,7 +13,6 @@ use Rattle.octets.specs.Buffer.{front}
 use Rattle.frame.specs.declared.Addresses.{Addresses}
 use Rattle.frame.specs.declared.End.TheVariants as ends
 use Rattle.frame.specs.Frame.{frame_of}
-use Rattle.split.specs.Split.{messages_most}
 use Rattle.split.specs.Codes.{stop_code}
 use Rattle.split.specs.declared.AckCode.{AckCode}
 use Rattle.progress.specs.declared.Outcome.TheVariants.{Done}
@@ -89,7 +88,7 @@ module _ (m m' : Meaning) where
   pub taken-sum : (sum : ℕ) → (takes m ≡ true → sum ≤ held_most) → m ≡ m' → takes m' ≡ true → sum ≤ held_most
   taken-sum sum f same k = f (rw same k)
 
-  pub taken_next : (e : ℕ) → (takes m ≡ true → e ≤ messages_most) → m ≡ m' → takes m' ≡ true → Fits w16 (e + 1)
+  pub taken_next : (e : ℕ) → (takes m ≡ true → e < 65535) → m ≡ m' → takes m' ≡ true → Fits w16 (e + 1)
   taken_next e f same k = record { fits = omega (arith, f (rw same k)) }
 
 -- a failed wait takes nothing

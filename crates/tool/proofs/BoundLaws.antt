@@ -11,7 +11,6 @@ use borrow.Author.Tests.{eqb-true}
 use Rattle.octets.proofs.Tests.{never}
 use Rattle.frame.specs.declared.Addresses.{Addresses}
 use Rattle.catalog.specs.declared.AnswerName.{AnswerName}
-use Rattle.split.specs.Split.{messages_most}
 use Rattle.progress.specs.declared.Request.{Request}
 use Rattle.progress.specs.declared.Outcome.TheVariants.{NoAnswer}
 use Rattle.progress.specs.declared.ToolState.{ToolState}
@@ -43,7 +42,7 @@ module _ (t : ToolState) (fits : Fits t) where
       go false = record { day = fits.day; expected = fits.expected; held = fits.held }
 
   -- where bytes are taken, their sum with those held and the next number fit
-  after-fits : (m : Meaning) (n : ℕ) → (takes m ≡ true → t.held + n ≤ held_most) → (takes m ≡ true → t.expected.0 ≤ messages_most) → Fits (state_after t m n)
+  after-fits : (m : Meaning) (n : ℕ) → (takes m ≡ true → t.held + n ≤ held_most) → (takes m ≡ true → t.expected.0 < 65535) → Fits (state_after t m n)
   unfolding takes state_after
   after-fits Ignored n most next = fits
   after-fits FailedWait n most next = failed-fits

@@ -18,7 +18,6 @@ use Rattle.frame.specs.Frame.{data_place, data_of}
 use Rattle.frame.specs.Given.{different}
 use Rattle.catalog.specs.Name.{name_number}
 use Rattle.catalog.specs.declared.AnswerName.{AnswerName}
-use Rattle.split.specs.Split.{messages_most}
 use Rattle.progress.specs.declared.Request.{Request}
 use Rattle.progress.specs.declared.ToolState.{ToolState}
 use Rattle.tool.specs.declared.ToolStep.{ToolStep}
@@ -122,10 +121,11 @@ pub step-most : (m : Meaning) (sum : ℕ) → (takes m ≡ true → sum ≤ held
 step-most m sum f k = f k
 
 pub step-next : (t : ToolState) (m : Meaning) (room_len out_len r : ℕ) → (takes m ≡ true → is_transfer t.request ≡ true) → r ≡ event_number t room_len out_len
-    → r ≡ 0 → takes m ≡ true → t.expected.0 ≤ messages_most
+    → r ≡ 0 → takes m ≡ true → t.expected.0 < 65535
 step-next t m room_len out_len r f e z k =
     let h = heard t room_len out_len (sym e ∙ z) in
-    (waiting-transfer room_len t h.waiting h.possibly (f k)).expected_most
+    let w = waiting-transfer room_len t h.waiting h.possibly (f k) in
+    omega (arith, w.expected_most)
 
 -- An arrival x: what the step needs of it, and what the step gives
 module _ (a : Addresses) (t : ToolState) (b : List ℕ) (room_len : ℕ) (x : Arrival) (is : x ≡ arrival_of a room_len t b) where

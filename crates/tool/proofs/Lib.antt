@@ -6,4 +6,3 @@ pub mod CallLaws
 pub mod BoundLaws
 pub mod Given
 pub mod Days
-pub mod Codes

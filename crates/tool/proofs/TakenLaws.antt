@@ -1,23 +1,20 @@
 -- What is known where the bytes of a string that arrives are taken.
-use Prim.Native.Nat.{ℕ, ◌≤◌}
+use Prim.Native.Nat.{ℕ}
 use mathlib.Core.Bool.{Bool, true, false, cond}
 use mathlib.Core.List.{List}
 use mathlib.Core.Path.{◌≡◌, refl}
-use native.Mathlib.Omega.{arith}
 use lib.Dec.{eqb}
-use lib.ListN.{length, get_or, length-append}
+use lib.ListN.{length, get_or}
 use Rattle.octets.specs.Buffer.{same_bytes}
 use Rattle.octets.proofs.Tests.{never}
 use Rattle.frame.specs.declared.Addresses.{Addresses}
 use Rattle.frame.specs.declared.End.TheVariants as ends
 use Rattle.frame.specs.Frame.{judged, data_of}
-use Rattle.split.specs.Split.{piece_size}
-use Rattle.split.proofs.JoinLaws.{full-carries}
 use Rattle.split.specs.declared.Received.{Received}
 use Rattle.split.specs.declared.Received.TheVariants.{Whole, Full, Last, Above, Other}
 use Rattle.progress.specs.declared.ToolState.{ToolState}
 use Rattle.arrival.specs.declared.Meaning.{Meaning}
-use Rattle.arrival.specs.declared.Meaning.TheVariants.{Ignored, FailedWait, Confirmed, SubMessageTaken, RefusedBy}
+use Rattle.arrival.specs.declared.Meaning.TheVariants.{Ignored, FailedWait, Confirmed, RefusedBy}
 use Rattle.progress.specs.State.{is_transfer}
 use Rattle.arrival.specs.Replies.{reply_wanted}
 use Rattle.arrival.specs.Meaning.{new_bytes, fits, meaning_of, received_by, transfer_meaning, is_refusal, refusal_meaning, data_meaning, arrival_meaning, arrival_bytes}
@@ -62,37 +59,3 @@ taken a room_len t b e =
     taken-tests (eqb (judged a ends.Tool b) 0) (is_refusal t d) (is_transfer t.request) (same_bytes d (reply_wanted t.request))
     (eqb (get_or d 2 0) 0x78) (get_or d 2 0) (meaning_of x (fits room_len t n)) e in
     record { transfer = q.0; fit = taken-fit x (fits room_len t n) q.1 }
-
--- Where a sub message is taken and another is expected: it was a full one
-
-full-fit : (x : Received) (f : Bool) → meaning_of x f ≡ SubMessageTaken → x ≡ Full
-unfolding meaning_of
-full-fit Full f e = refl
-full-fit Whole true e = never (cc)
-full-fit Whole false e = never (cc)
-full-fit Last true e = never (cc)
-full-fit Last false e = never (cc)
-full-fit Above f e = never (cc)
-full-fit Other f e = never (cc)
-
-full-tests : (g r f s w : Bool) (code : ℕ) (m : Meaning)
-    → cond g (cond r (cond w Ignored (RefusedBy code)) (cond f m (cond s Confirmed Ignored))) FailedWait ≡ SubMessageTaken → m ≡ SubMessageTaken
-full-tests true false true s w code m e = e
-full-tests true true f s true code m e = never (cc)
-full-tests true true f s false code m e = never (cc)
-full-tests true false false true w code m e = never (cc)
-full-tests true false false false w code m e = never (cc)
-full-tests false r f s w code m e = never (cc)
-
-pub full-taken : (a : Addresses) (room_len : ℕ) (t : ToolState) (b : List ℕ) → arrival_meaning a room_len t b ≡ SubMessageTaken
-    → piece_size ≤ length (arrival_bytes a t b)
-unfolding arrival_meaning data_meaning refusal_meaning transfer_meaning arrival_bytes
-full-taken a room_len t b e =
-    let d : List ℕ = data_of a ends.Tool b in
-    let x : Received = received_by t d in
-    let n : ℕ = length (new_bytes t x d) in
-    let m =
-    full-tests (eqb (judged a ends.Tool b) 0) (is_refusal t d) (is_transfer t.request) (same_bytes d (reply_wanted t.request))
-    (eqb (get_or d 2 0) 0x78) (get_or d 2 0) (meaning_of x (fits room_len t n)) e in
-    let q : x ≡ Full = full-fit x (fits room_len t n) m in
-    rw q (simp length-append (omega (arith, full-carries t.name.trep t.expected.0 d q)))

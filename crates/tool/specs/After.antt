@@ -2,7 +2,9 @@
 use Rattle.std.specs.Prelude.{ℕ, ◌+◌, cond, List, [], leb}
 use Rattle.octets.specs.Buffer.{put}
 use Rattle.frame.specs.declared.Addresses.{Addresses}
-use Rattle.split.specs.Codes.{sub}
+use Rattle.frame.specs.declared.End.TheVariants as ends
+use Rattle.frame.specs.Frame.{frame_of}
+use Rattle.split.specs.Codes.{sub, stop_code}
 use Rattle.progress.specs.declared.Outcome.TheVariants.{Done, NoRoom, Refused}
 use Rattle.progress.specs.declared.ToolState.{ToolState}
 use Rattle.arrival.specs.declared.Meaning.{Meaning}
@@ -10,7 +12,7 @@ use Rattle.arrival.specs.declared.Meaning.TheVariants.{Ignored, FailedWait, Conf
 use Rattle.arrival.specs.declared.Meaning.TheVariants.{LastTaken, NoRoomForAnswer, NoRoomForSubMessage, RefusedBy}
 use Rattle.arrival.specs.Meaning.{takes}
 use Rattle.progress.specs.Next.{ended, waits, after_failed_wait}
-use Rattle.requests.specs.Sent.{stop_frame, frame_sent}
+use Rattle.requests.specs.Sent.{acknowledgement, frame_sent}
 
 -- the next state; n new bytes
 unfoldable pub state_after : ToolState → Meaning → ℕ → ToolState
@@ -34,7 +36,7 @@ sent_after a t WholeAnswer = []
 sent_after a t SubMessageTaken = frame_sent a t.request t.name (t.expected.0 + 1)
 sent_after a t LastTaken = []
 sent_after a t NoRoomForAnswer = []
-sent_after a t NoRoomForSubMessage = stop_frame a
+sent_after a t NoRoomForSubMessage = frame_of a ends.Unit (acknowledgement stop_code)
 sent_after a t (RefusedBy code) = []
 
 -- "New bytes go into the lent room right behind those already held"; "'no room', the room unchanged"

@@ -1,5 +1,5 @@
 -- What is claimed of days at the tool (document 02, Req 03). proofs/Days.antt proves it.
-use Rattle.std.specs.Prelude.{ℕ, Bool, cond, ◌&&◌, ◌≡◌, eqb}
+use Rattle.std.specs.Prelude.{ℕ, Bool, cond, ◌&&◌, ◌≡◌, eqb, leb}
 use Rattle.octets.specs.Order.{unless}
 use Rattle.octets.specs.Numbers.{done, not_in_table}
 use Rattle.catalog.specs.Name.{WholeDay}
@@ -7,7 +7,7 @@ use Rattle.catalog.specs.Claims.{name_number_before}
 use Rattle.catalog.specs.declared.AnswerName.{AnswerName}
 use Rattle.progress.specs.declared.Request.{Request}
 use Rattle.progress.specs.declared.ToolState.{ToolState}
-use Rattle.progress.specs.State.{within, is_transfer, held_right, transfer_possible}
+use Rattle.progress.specs.State.{held_most, is_transfer, held_right, transfer_possible}
 use Rattle.tool.specs.Call.{request_number, begun, begin_number, begin_state}
 
 -- Document 01's 12 at a begin and its rule of a waiting transfer, before Req 03
@@ -18,7 +18,8 @@ request_number_before request name =
 
 unfoldable pub transfer_possible_before : ℕ → ToolState → Bool
 transfer_possible_before room_len t =
-    eqb (name_number_before t.name) 0 && (held_right t.expected.0 t.held && within room_len t.held)
+    eqb (name_number_before t.name) 0
+    && (held_right t.expected.0 t.held && (leb t.held room_len && leb t.held held_most))
 
 pub record DayClaims : Type 0 where
   -- a begin keeps the second as it was given

@@ -3,4 +3,3 @@ pub mod After
 pub mod Call
 pub mod Given
 pub mod Days
-pub mod Codes

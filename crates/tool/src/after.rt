@@ -1,8 +1,7 @@
 // What follows from an event: the next state, and the frame that goes out.
-ghost use Rattle.std.specs.Prelude.{◌≡◌, true, ◌+◌, ◌≤◌, length};
+ghost use Rattle.std.specs.Prelude.{◌≡◌, true, ◌+◌, ◌≤◌, ◌<◌, length};
 ghost use Rattle.octets.specs.Buffer.{front};
 ghost use Rattle.frame.specs.Frame.{frame_most};
-ghost use Rattle.split.specs.Split.{messages_most};
 ghost use Rattle.progress.specs.State.{held_most};
 ghost use Rattle.arrival.specs.Meaning.{takes};
 ghost use Rattle.tool.specs.After.{state_after, sent_after};
@@ -23,7 +22,7 @@ fn grown(held: u32, new: usize) -> u32
 // The next state; where bytes are taken, their sum with those held and the next number fit.
 pub(crate) fn state_after(state: ToolState, meaning: Meaning, new: usize) -> ToolState
     requires bound { takes meaning ≡ true → state.held + new ≤ held_most }
-    requires expected_le_messages_most { takes meaning ≡ true → state.expected.0 ≤ messages_most }
+    requires expected_bound { takes meaning ≡ true → state.expected.0 < 65535 }
     ensures { result ≡ state_after state meaning new }
 {
     let held = state.held;
@@ -52,7 +51,7 @@ pub(crate) fn write_sent(
     meaning: Meaning,
     out: &mut [u8],
 ) -> usize
-    requires expected_le_messages_most { takes meaning ≡ true → state.expected.0 ≤ messages_most }
+    requires expected_bound { takes meaning ≡ true → state.expected.0 < 65535 }
     requires frame_most_in_bounds { frame_most ≤ length out.old }
     ensures value { result ≡ length (sent_after addresses state meaning) }
     ensures out_after { out.new ≡ front (sent_after addresses state meaning) out.old }

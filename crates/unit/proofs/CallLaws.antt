@@ -15,7 +15,7 @@ use Rattle.frame.specs.declared.Addresses.{Addresses}
 use Rattle.frame.specs.declared.End.TheVariants as ends
 use Rattle.frame.specs.Frame.{is_start, judged, data_of}
 use Rattle.catalog.specs.declared.AnswerName.{AnswerName}
-use Rattle.store.specs.Layout.{form_of}
+use Rattle.store.specs.Layout.{narrow}
 use Rattle.store.specs.Read.{lookup_place, lookup_both}
 use Rattle.store.specs.declared.TwoPlaces.{TwoPlaces}
 use Rattle.services.specs.declared.Phase.{Phase}
@@ -32,7 +32,7 @@ use Rattle.unit.specs.Piece.{piece_sent}
 use Rattle.unit.proofs.SentLaws.{sends-what-is}
 
 -- the place of the answer that is being sent decides what is possible
-pub possible-sent : (s : List ℕ) (name : AnswerName) (place : Place) (u : UnitState) (r : Bool) → place ≡ lookup_place (form_of s) name s → name ≡ name_sent u.phase
+pub possible-sent : (s : List ℕ) (name : AnswerName) (place : Place) (u : UnitState) (r : Bool) → place ≡ lookup_place narrow name s → name ≡ name_sent u.phase
     → r ≡ possible_at place u → r ≡ possible s u
 unfolding possible
 possible-sent s name place u r found e q = rw (← e, ← found) q
@@ -73,15 +73,15 @@ module _ (a : Addresses) (s : List ℕ) (u : UnitState) (x : Reaction) where
   held-piece true e = e
   held-piece false e = refl
 
-pub found-by : (s : List ℕ) (found : TwoPlaces) (sent asked : AnswerName) (phase : Phase) (d : List ℕ) → found ≡ lookup_both (form_of s) sent asked s
+pub found-by : (s : List ℕ) (found : TwoPlaces) (sent asked : AnswerName) (phase : Phase) (d : List ℕ) → found ≡ lookup_both narrow sent asked s
     → sent ≡ name_sent phase → asked ≡ name_asked d
-    → found ≡ lookup_both (form_of s) (name_sent phase) (name_asked d) s
+    → found ≡ lookup_both narrow (name_sent phase) (name_asked d) s
 found-by s found sent asked phase d e p q = e ∙ rw (p, q)
 
 -- The call on the data d of the frame b; found is what the store gave for the answer that is being sent and the one asked for
 module _ (a : Addresses) (s : List ℕ) (u : UnitState) (b d : List ℕ) (found : TwoPlaces)
-    (given : found ≡ lookup_both (form_of s) (name_sent u.phase) (name_asked d) s) where
-  first_found : found.first ≡ lookup_place (form_of s) (name_sent u.phase) s
+    (given : found ≡ lookup_both narrow (name_sent u.phase) (name_asked d) s) where
+  first_found : found.first ≡ lookup_place narrow (name_sent u.phase) s
   first_found = ap (λ (p : TwoPlaces). p.first) given
 
   is-possible : possible_at found.first u ≡ possible s u

@@ -14,11 +14,11 @@ use Rattle.frame.specs.Frame.{is_start, data_of}
 use Rattle.catalog.specs.Name.{WholeDay, rounded}
 use Rattle.catalog.specs.declared.AnswerName.{AnswerName}
 use Rattle.catalog.proofs.DayLaws.{rounded-trep, rounded-again}
-use Rattle.split.specs.Codes.{code, same_code, next_of, acknowledge_of, repeat_of, stop_code}
+use Rattle.split.specs.Codes.{code, same_code, next_of, acknowledge_of, repeat_of}
 use Rattle.split.specs.Split.{is_split, count_of}
 use Rattle.split.specs.declared.SubMessage.{SubMessage}
 use Rattle.split.specs.declared.AckCode.{AckCode}
-use Rattle.store.specs.Layout.{form_of}
+use Rattle.store.specs.Layout.{narrow}
 use Rattle.store.specs.Read.{lookup_place}
 use Rattle.store.specs.Days.{lookup_place_before}
 use Rattle.store.proofs.Days.{day-claims as store-days}
@@ -107,18 +107,17 @@ after-rounded u (Negative sid code) = rw (phase-again u.phase)
 
 -- Reactions: only an acknowledgement reads the name that is being sent, and only lookups read its day
 
-place-rounded : (store : List ℕ) (name : AnswerName) → lookup_place (form_of store) (rounded name) store ≡ lookup_place (form_of store) name store
-place-rounded store name = (store-days (form_of store)).alike (rounded name) name store (rounded-again name)
+place-rounded : (store : List ℕ) (name : AnswerName) → lookup_place narrow (rounded name) store ≡ lookup_place narrow name store
+place-rounded store name = (store-days narrow).alike (rounded name) name store (rounded-again name)
 
 module _ (name : AnswerName) (last : SubMessage) where
   code-rounded : (place : Place) (c : AckCode) → rounded_reaction (on_code (rounded name) last place c) ≡ rounded_reaction (on_code name last place c)
   unfolding on_code
   code-rounded place c =
-      both (same_code c stop_code) _ _ _ _ refl
-      (both (same_code c (repeat_of last)) _ _ _ _ (sent-alike (rounded name) name last place (rounded-again name))
+      both (same_code c (repeat_of last)) _ _ _ _ (sent-alike (rounded name) name last place (rounded-again name))
       (both (same_code c (acknowledge_of last)) _ _ _ _
       (both (leb (last.0 + 1) (count_of (data_length_at place))) _ _ _ _ (sent-alike (rounded name) name (next_of last) place (rounded-again name)) refl)
-      refl))
+      refl)
 
   acknowledge-rounded : (place : Place) (d : List ℕ)
       → rounded_reaction (on_acknowledge (Sending (rounded name) last) place d) ≡ rounded_reaction (on_acknowledge (Sending name last) place d)
@@ -154,7 +153,7 @@ module _ (kind rate pending : ℕ) where
   reaction-at a store (Sending name last) b =
       rw (place-rounded store name)
       (both (is_start b) _ _ _ _ refl
-      (data-rounded (lookup_place (form_of store) name store) (place_asked store (data_of a ends.Unit b)) name last (data_of a ends.Unit b)))
+      (data-rounded (lookup_place narrow name store) (place_asked store (data_of a ends.Unit b)) name last (data_of a ends.Unit b)))
 
   possible-at : (store : List ℕ) (phase : Phase)
       → possible store (unit_at kind rate pending (rounded_phase phase)) ≡ possible store (unit_at kind rate pending phase)
@@ -208,7 +207,7 @@ module _ (a : Addresses) (store : List ℕ) (out_len : ℕ) (u : UnitState) (b :
 -- whole days
 whole-state : (store : List ℕ) (u : UnitState) → WholeDay (name_sent u.phase).day → possible store u ≡ possible_before store u
 unfolding possible possible_before
-whole-state store u e = rw ((store-days (form_of store)).whole_place (name_sent u.phase) store e)
+whole-state store u e = rw ((store-days narrow).whole_place (name_sent u.phase) store e)
 
 whole-reaction : (a : Addresses) (store : List ℕ) (u : UnitState) (b : List ℕ) → WholeDay (name_sent u.phase).day
     → WholeDay (name_asked (data_of a ends.Unit b)).day → reaction_to a store u b ≡ reaction_before a store u b
@@ -216,9 +215,9 @@ unfolding reaction_to reaction_at reaction_before
 whole-reaction a store u b e f =
     let d : List ℕ = data_of a ends.Unit b in
     rw (
-      (store-days (form_of store)).whole_place (name_sent u.phase) store e,
-      (store-days (form_of store)).whole_place (name_asked d) store f,
-      service-days.whole_day (lookup_place_before (form_of store) (name_sent u.phase) store) (lookup_place_before (form_of store) (name_asked d) store) u d f,
+      (store-days narrow).whole_place (name_sent u.phase) store e,
+      (store-days narrow).whole_place (name_asked d) store f,
+      service-days.whole_day (lookup_place_before narrow (name_sent u.phase) store) (lookup_place_before narrow (name_asked d) store) u d f,
     )
 
 pub day-claims : DayClaims

@@ -18,7 +18,7 @@ use Rattle.split.specs.Codes.{sub, next_of}
 use Rattle.split.specs.declared.SubMessage.{SubMessage}
 use Rattle.split.proofs.SplitLaws.{piece-zero}
 use Rattle.split.proofs.Theorems.{count-some, count_most_lem}
-use Rattle.store.specs.Layout.{form_of}
+use Rattle.store.specs.Layout.{narrow}
 use Rattle.store.specs.Read.{lookup_place}
 use Rattle.services.specs.declared.Phase.{Phase}
 use Rattle.services.specs.declared.Phase.TheVariants.{Sending}
@@ -83,14 +83,14 @@ module _ (s : List ℕ) where
   no-piece (Negative sid code) e = refl
 
   -- the first sub message of the answer that was looked up, if it is held
-  first-sent : (name asked : AnswerName) → piece_sent s (answer_from name (sub 1) (lookup_place (form_of s) asked s)) ≡ 0
+  first-sent : (name asked : AnswerName) → piece_sent s (answer_from name (sub 1) (lookup_place narrow asked s)) ≡ 0
   unfolding piece_sent answer_from
-  first-sent name asked = go (eqb (lookup_place (form_of s) asked s).number 0) refl
+  first-sent name asked = go (eqb (lookup_place narrow asked s).number 0) refl
     where
-      go : (t : Bool) → eqb (lookup_place (form_of s) asked s).number 0 ≡ t
-          → piece_sent s (cond t (AnswerSent name (sub 1) (lookup_place (form_of s) asked s)) (Negative 0x36 0x_fA)) ≡ 0
+      go : (t : Bool) → eqb (lookup_place narrow asked s).number 0 ≡ t
+          → piece_sent s (cond t (AnswerSent name (sub 1) (lookup_place narrow asked s)) (Negative 0x36 0x_fA)) ≡ 0
       go true e =
-          piece-in (lookup_place (form_of s) asked s) 1 (found_in s asked (eqb-true _ _ e)) (omega arith) (count-some _)
+          piece-in (lookup_place narrow asked s) 1 (found_in s asked (eqb-true _ _ e)) (omega arith) (count-some _)
       go false e = refl
 
   -- what is known of the answer that is being sent

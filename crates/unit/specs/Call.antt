@@ -10,7 +10,7 @@ use Rattle.frame.specs.Frame.{frame_most, frame_of, is_start, judged, data_of}
 use Rattle.frame.specs.Given.{different}
 use Rattle.frame.specs.Messages.{start_reply, session_reply, rate_reply, upload_reply, exit_reply, stop_reply}
 use Rattle.split.specs.Split.{sub_field}
-use Rattle.store.specs.Layout.{form_of}
+use Rattle.store.specs.Layout.{narrow}
 use Rattle.store.specs.Check.{store_number}
 use Rattle.store.specs.Read.{lookup_place}
 use Rattle.services.specs.declared.UnitState.{UnitState}
@@ -26,7 +26,7 @@ use Rattle.unit.specs.State.{place_sent, possible}
 
 -- where the answer lies that a frame's data asks for
 abbrev pub place_asked : List ℕ → List ℕ → Place
-place_asked store d = lookup_place (form_of store) (name_asked d) store
+place_asked store d = lookup_place narrow (name_asked d) store
 
 -- a good frame: "81 (five-byte frame) | any (house)"; "Closed: only 81 is heard; other good frames meet silence and
 -- change nothing"; sent and asked are the places of the answer that is being sent and of the one that is asked for
@@ -74,7 +74,7 @@ number_before broken is_possible out_len =
 -- "Unit call: 5, 11, 4 (reply buffer under 260), then frame numbers", with the number of the store's fault for 5
 unfoldable pub unit_number : Addresses → List ℕ → ℕ → UnitState → List ℕ → ℕ
 unit_number a store out_len u b =
-    or_else (number_before (store_number (form_of store) store) (possible store u) out_len)
+    or_else (number_before (store_number narrow store) (possible store u) out_len)
     (judged a ends.Unit b)
 
 -- the next state, and the reply where nothing is refused

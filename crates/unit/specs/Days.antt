@@ -4,7 +4,7 @@ use Rattle.frame.specs.declared.Addresses.{Addresses}
 use Rattle.frame.specs.declared.End.TheVariants as ends
 use Rattle.frame.specs.Frame.{is_start, data_of}
 use Rattle.catalog.specs.Name.{WholeDay, rounded}
-use Rattle.store.specs.Layout.{form_of}
+use Rattle.store.specs.Layout.{narrow}
 use Rattle.store.specs.Days.{lookup_place_before}
 use Rattle.services.specs.declared.Phase.{Phase}
 use Rattle.services.specs.declared.Phase.TheVariants.{Closed, Started, Session, Granted, Sending}
@@ -31,14 +31,14 @@ rounded_state u =
 
 -- Document 01's state and reaction, before Req 03: the answers by the very day, and 31
 unfoldable pub possible_before : List ℕ → UnitState → Bool
-possible_before store u = possible_at (lookup_place_before (form_of store) (name_sent u.phase) store) u
+possible_before store u = possible_at (lookup_place_before narrow (name_sent u.phase) store) u
 
 unfoldable pub reaction_before : Addresses → List ℕ → UnitState → List ℕ → Reaction
 reaction_before a store u b =
     cond (is_start b) CommunicationStarted
     (cond (is_closed u.phase) Ignored
-    (on_data_before (lookup_place_before (form_of store) (name_sent u.phase) store)
-    (lookup_place_before (form_of store) (name_asked (data_of a ends.Unit b)) store) u (data_of a ends.Unit b)))
+    (on_data_before (lookup_place_before narrow (name_sent u.phase) store)
+    (lookup_place_before narrow (name_asked (data_of a ends.Unit b)) store) u (data_of a ends.Unit b)))
 
 pub record DayClaims : Type 0 where
   -- which second of the day a state keeps does not matter: whatever arrives, number and reply are the same, and the

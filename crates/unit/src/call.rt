@@ -3,7 +3,7 @@ ghost use Rattle.std.specs.Prelude.{◌≡◌, length};
 ghost use Rattle.octets.specs.Numbers.{changed_by};
 ghost use Rattle.frame.specs.Frame.{judged, data_of};
 ghost use Rattle.frame.specs.declared.End.TheVariants as ends;
-ghost use Rattle.store.specs.Layout.{form_of};
+ghost use Rattle.store.specs.Layout.{narrow};
 ghost use Rattle.store.specs.Read.{lookup_both};
 ghost use Rattle.services.specs.State.{name_sent, possible_at};
 ghost use Rattle.services.specs.Services.{name_asked};
@@ -92,7 +92,7 @@ fn answer(
     number: u8,
     reply: &mut [u8],
 ) -> UnitReply
-    requires found_value { found ≡ lookup_both (form_of store.now) (name_sent state.phase) (name_asked «data».now) store.now }
+    requires found_value { found ≡ lookup_both narrow (name_sent state.phase) (name_asked «data».now) store.now }
     requires number_value { number ≡ judged addresses ends.Unit frame.now }
     requires data_value { «data».now ≡ data_of addresses ends.Unit frame.now }
     ensures value { result
@@ -146,7 +146,7 @@ pub fn step(
     let start = place.start;
     let end = start + place.len;
     let data = &frame[start..end];
-    let found = store::call::locate_both(
+    let found = store::read::locate_both(
         store,
         services::state::name_sent(phase),
         services::transfer::name_asked(data),

@@ -50,7 +50,7 @@ fn appended(store: &mut [u8], answer: &[u8], day: u32) {
 }
 
 fn found(store: &[u8], day: u32) {
-    let place = store::call::locate(store, AnswerName { trep: 0x02, day });
+    let place = store::read::locate(store, AnswerName { trep: 0x02, day });
     print::number(b"lookup by ", day as usize);
     print::number(b": number ", octets::byte::usize_of(place.number));
     print::number(b", start ", place.start);
@@ -126,7 +126,7 @@ pub(crate) fn days() {
     short(&mut store);
     split(&mut longer);
     begun();
-    let fault = store::call::fault(&BROKEN);
+    let fault = store::check::fault(&BROKEN);
     print::number(
         b"entry of 86401: number ",
         octets::byte::usize_of(fault.number),

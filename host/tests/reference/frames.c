@@ -1,4 +1,4 @@
-/* Document 01, Frames and Splitting; document 02, Req 05: two equal addresses are 2, before any other check; Req 08: the longest answer. */
+/* Document 01, Frames and Splitting; document 02, Req 05: two equal addresses are 2, before any other check. */
 #include "reference.h"
 
 #include <string.h>
@@ -71,7 +71,7 @@ tacho_written ref_frame_write(const uint8_t *data, size_t data_len, bool to_tool
 
 tacho_counted ref_sub_messages(size_t n)
 {
-    if (n > REF_DATA_MOST) return (tacho_counted){8, 0};
+    if (n > 59998) return (tacho_counted){8, 0};
     return (tacho_counted){0, n <= 252 ? 1 : n / 251 + 1};
 }
 

@@ -16,42 +16,16 @@
 enum { REF_FRAME_DATA = 4 };
 enum { REF_UNIT_ADDRESS = 0xEE, REF_TOOL_ADDRESS = 0xF0 };
 
-/* Document 02, Req 08: what the cable protocol can carry. Number 65,535 is never used, since its acknowledge code FFFF means stop. */
+/* Document 01, Bench store: the places of the header's and an entry's fields, and the size of both. */
 enum {
-    REF_SUB_MESSAGES_MOST = 65534,
-    REF_DATA_MOST = 251 * (REF_SUB_MESSAGES_MOST - 1) + 250,
-    REF_ANSWER_MOST = 2 + REF_DATA_MOST,
-    REF_ANSWERS_MOST = 64 /* in a store of either form */
+    REF_STORE_AT_COUNT = 0,
+    REF_STORE_AT_STREAM_LEN = 2,
+    REF_STORE_HEADER = 4,
+    REF_ENTRY_AT_DAY = 0,
+    REF_ENTRY_AT_OFFSET = 4,
+    REF_ENTRY_AT_LEN = 6,
+    REF_STORE_ENTRY = 8
 };
-
-/* Document 01, Bench store, and document 02, Req 08: the layout of a store. Count and stream length stand in the header, day, offset and
- * length in an entry, the day in four bytes, each other field in as many as the form's width. */
-typedef struct {
-    size_t mark;        /* bytes before the count */
-    size_t width;       /* of a field */
-    size_t stream_len;  /* where the header has the stream length, */
-    size_t header;      /* and the header's size */
-    size_t len;         /* where an entry has the answer's length, behind day and offset, */
-    size_t entry;       /* and the entry's size */
-    size_t stream_most; /* the longest stream */
-} ref_form;
-
-enum { REF_ENTRY_AT_DAY = 0, REF_ENTRY_AT_OFFSET = 4 };
-
-extern const ref_form REF_OLD, REF_WIDE;
-
-/* The form in which a buffer is read: wide where it begins FF FF, the wide form's mark, else old. */
-const ref_form *ref_form_of(const uint8_t *store, size_t len);
-
-/* A field of a store: its number, and putting one there. */
-size_t ref_field(const ref_form *form, const uint8_t *field);
-void ref_put_field(const ref_form *form, uint8_t *field, size_t n);
-
-/* Where entry i of a store stands; the stream stands behind the last. */
-size_t ref_entry_at(const ref_form *form, size_t i);
-
-/* Writes an empty store: its length. */
-size_t ref_store_empty(const ref_form *form, uint8_t *store);
 
 #define REF_CALL(name) __typeof__(tacho_##name) ref_##name
 REF_CALL(checksum);

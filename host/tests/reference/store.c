@@ -1,4 +1,4 @@
-/* Document 01, Transfer types, Bench store and Record arrays; document 02, Req 03, Req 06 and Req 08. */
+/* Document 01, Transfer types, Bench store and Record arrays; document 02, Req 03 and Req 06. */
 #include "reference.h"
 #include "tables.h"
 
@@ -53,116 +53,73 @@ uint32_t ref_be32(const uint8_t *b)
     return ref_be16(b) << 16 | ref_be16(b + 2);
 }
 
-const ref_form REF_OLD = {.mark = 0, .width = 2, .stream_len = 2, .header = 4, .len = 6, .entry = 8, .stream_most = 60000};
-const ref_form REF_WIDE = {.mark = 2, .width = 4, .stream_len = 6, .header = 10, .len = 8, .entry = 12, .stream_most = 33554432};
-
-/* Of a function that is written once over the form and compiled for each: so a form costs nothing where the loops are. */
-#define EACH_FORM static inline __attribute__((always_inline))
-
-static bool is_wide(const uint8_t *s, size_t len)
+static void put16(uint8_t *b, uint32_t n)
 {
-    return len >= 2 && s[0] == 0xFF && s[1] == 0xFF;
-}
-
-const ref_form *ref_form_of(const uint8_t *s, size_t len)
-{
-    return is_wide(s, len) ? &REF_WIDE : &REF_OLD;
-}
-
-EACH_FORM size_t field_of(const ref_form *f, const uint8_t *field)
-{
-    return f->width == 2 ? ref_be16(field) : ref_be32(field);
-}
-
-size_t ref_field(const ref_form *f, const uint8_t *field)
-{
-    return field_of(f, field);
-}
-
-void ref_put_field(const ref_form *f, uint8_t *field, size_t n)
-{
-    const uint8_t bytes[4] = {REF_FOUR_BYTES(n)};
-    memcpy(field, bytes + 4 - f->width, f->width);
-}
-
-EACH_FORM size_t entry_at(const ref_form *f, size_t i)
-{
-    return f->header + f->entry * i;
-}
-
-size_t ref_entry_at(const ref_form *f, size_t i)
-{
-    return entry_at(f, i);
-}
-
-size_t ref_store_empty(const ref_form *f, uint8_t *s)
-{
-    memset(s, 0, f->header);
-    memset(s, 0xFF, f->mark);
-    return f->header;
+    b[0] = (uint8_t)(n >> 8);
+    b[1] = (uint8_t)n;
 }
 
 /* The fields of a store that is long enough for them. */
 
-EACH_FORM size_t count_of(const ref_form *f, const uint8_t *s)
+static size_t count_of(const uint8_t *s)
 {
-    return field_of(f, s + f->mark);
+    return ref_be16(s + REF_STORE_AT_COUNT);
 }
 
-EACH_FORM size_t stream_len_of(const ref_form *f, const uint8_t *s)
+static size_t stream_len_of(const uint8_t *s)
 {
-    return field_of(f, s + f->stream_len);
+    return ref_be16(s + REF_STORE_AT_STREAM_LEN);
 }
 
-EACH_FORM uint32_t day_of(const ref_form *f, const uint8_t *s, size_t i)
+static size_t stream_at(size_t count)
 {
-    return ref_be32(s + entry_at(f, i) + REF_ENTRY_AT_DAY);
+    return REF_STORE_HEADER + REF_STORE_ENTRY * count;
 }
 
-EACH_FORM size_t offset_of(const ref_form *f, const uint8_t *s, size_t i)
+static const uint8_t *entry(const uint8_t *s, size_t i)
 {
-    return field_of(f, s + entry_at(f, i) + REF_ENTRY_AT_OFFSET);
+    return s + stream_at(i);
 }
 
-EACH_FORM size_t len_of(const ref_form *f, const uint8_t *s, size_t i)
+static uint32_t day_of(const uint8_t *s, size_t i)
 {
-    return field_of(f, s + entry_at(f, i) + f->len);
+    return ref_be32(entry(s, i) + REF_ENTRY_AT_DAY);
 }
 
-EACH_FORM const uint8_t *answer(const ref_form *f, const uint8_t *s, size_t i)
+static size_t offset_of(const uint8_t *s, size_t i)
 {
-    return s + entry_at(f, count_of(f, s)) + offset_of(f, s, i);
+    return ref_be16(entry(s, i) + REF_ENTRY_AT_OFFSET);
 }
 
-EACH_FORM bool same_name(const ref_form *f, const uint8_t *s, size_t i, size_t j)
+static size_t len_of(const uint8_t *s, size_t i)
 {
-    return answer(f, s, i)[1] == answer(f, s, j)[1] && day_of(f, s, i) == day_of(f, s, j);
+    return ref_be16(entry(s, i) + REF_ENTRY_AT_LEN);
+}
+
+static const uint8_t *answer(const uint8_t *s, size_t i)
+{
+    return s + stream_at(count_of(s)) + offset_of(s, i);
 }
 
 /* Each check over all entries, the first entry first, before the next. */
-EACH_FORM tacho_fault fault_in(const ref_form *f, const uint8_t *s, size_t len)
+tacho_fault ref_store_fault(const uint8_t *s, size_t len)
 {
-    if (len < f->header) return (tacho_fault){13, 0};
-    size_t n = count_of(f, s), t = stream_len_of(f, s), end = 0;
-    if (len < entry_at(f, n) + t) return (tacho_fault){13, n};
-    if (n > REF_ANSWERS_MOST || t > f->stream_most) return (tacho_fault){14, n};
+    if (len < REF_STORE_HEADER) return (tacho_fault){13, 0};
+    size_t n = count_of(s), t = stream_len_of(s), end = 0;
+    if (len < stream_at(n) + t) return (tacho_fault){13, n};
+    if (n > 64 || t > 60000) return (tacho_fault){14, n};
     for (size_t i = 0; i < n; i++) {
-        size_t l = len_of(f, s, i);
-        if (offset_of(f, s, i) != end || l < 2 || l > REF_ANSWER_MOST || end + l > t) return (tacho_fault){15, i};
+        size_t l = len_of(s, i);
+        if (offset_of(s, i) != end || l < 2 || end + l > t) return (tacho_fault){15, i};
         end += l;
     }
     if (end < t) return (tacho_fault){15, n};
     for (size_t i = 0; i < n; i++)
-        if (answer(f, s, i)[0] != 0x76 || !entry_named(answer(f, s, i)[1], day_of(f, s, i))) return (tacho_fault){16, i};
+        if (answer(s, i)[0] != 0x76 || !entry_named(answer(s, i)[1], day_of(s, i))) return (tacho_fault){16, i};
     for (size_t i = 0; i < n; i++)
         for (size_t j = 0; j < i; j++)
-            if (same_name(f, s, i, j)) return (tacho_fault){17, i};
+            if (answer(s, i)[1] == answer(s, j)[1] && day_of(s, i) == day_of(s, j)) return (tacho_fault){17, i};
     return (tacho_fault){0, 0};
-}
-
-tacho_fault ref_store_fault(const uint8_t *s, size_t len)
-{
-    return is_wide(s, len) ? fault_in(&REF_WIDE, s, len) : fault_in(&REF_OLD, s, len);
 }
 
 uint8_t ref_store_check(const uint8_t *s, size_t len)
@@ -170,19 +127,14 @@ uint8_t ref_store_check(const uint8_t *s, size_t len)
     return ref_store_fault(s, len).number;
 }
 
-EACH_FORM tacho_part find_in(const ref_form *f, const uint8_t *s, uint8_t trep, uint32_t second)
-{
-    size_t n = count_of(f, s);
-    uint32_t day = stored_day(trep, second);
-    for (size_t i = 0; i < n; i++)
-        if (answer(f, s, i)[1] == trep && day_of(f, s, i) == day)
-            return (tacho_part){0, (size_t)(answer(f, s, i) - s), len_of(f, s, i)};
-    return (tacho_part){6, 0, 0};
-}
-
 tacho_part ref_store_find(const uint8_t *s, uint8_t trep, uint32_t second)
 {
-    return is_wide(s, 2) ? find_in(&REF_WIDE, s, trep, second) : find_in(&REF_OLD, s, trep, second);
+    size_t n = count_of(s);
+    uint32_t day = stored_day(trep, second);
+    for (size_t i = 0; i < n; i++)
+        if (answer(s, i)[1] == trep && day_of(s, i) == day)
+            return (tacho_part){0, (size_t)(answer(s, i) - s), len_of(s, i)};
+    return (tacho_part){6, 0, 0};
 }
 
 tacho_part ref_store_lookup(const uint8_t *s, size_t len, uint8_t trep, uint32_t second)
@@ -194,55 +146,46 @@ tacho_part ref_store_lookup(const uint8_t *s, size_t len, uint8_t trep, uint32_t
 
 tacho_part ref_store_stream(const uint8_t *s, size_t len)
 {
-    const ref_form *f = ref_form_of(s, len);
     uint8_t number = ref_store_check(s, len);
     if (number) return (tacho_part){number, 0, 0};
-    return (tacho_part){0, entry_at(f, count_of(f, s)), stream_len_of(f, s)};
+    return (tacho_part){0, stream_at(count_of(s)), stream_len_of(s)};
 }
 
 tacho_counted ref_store_count(const uint8_t *s, size_t len)
 {
     uint8_t number = ref_store_check(s, len);
-    return (tacho_counted){number, number ? 0 : count_of(ref_form_of(s, len), s)};
+    return (tacho_counted){number, number ? 0 : count_of(s)};
 }
 
 tacho_held ref_store_answer(const uint8_t *s, size_t len, size_t k)
 {
-    const ref_form *f = ref_form_of(s, len);
     uint8_t number = ref_store_check(s, len);
     if (number) return (tacho_held){.number = number};
-    if (k >= count_of(f, s)) return (tacho_held){.number = 6};
-    const uint8_t *a = answer(f, s, k);
-    return (tacho_held){0, a[1], day_of(f, s, k), (size_t)(a - s), len_of(f, s, k)};
-}
-
-/* The answer goes behind the stream, which makes way for its entry. */
-static void put_last(const ref_form *f, uint8_t *s, const uint8_t *a, size_t a_len, uint32_t day)
-{
-    size_t n = count_of(f, s), t = stream_len_of(f, s);
-    uint8_t *e = s + entry_at(f, n);
-    const uint8_t day_bytes[4] = {REF_FOUR_BYTES(day)};
-    memmove(e + f->entry, e, t);
-    memcpy(e + f->entry + t, a, a_len);
-    memcpy(e + REF_ENTRY_AT_DAY, day_bytes, sizeof day_bytes);
-    ref_put_field(f, e + REF_ENTRY_AT_OFFSET, t);
-    ref_put_field(f, e + f->len, a_len);
-    ref_put_field(f, s + f->mark, n + 1);
-    ref_put_field(f, s + f->stream_len, t + a_len);
+    if (k >= count_of(s)) return (tacho_held){.number = 6};
+    const uint8_t *a = answer(s, k);
+    return (tacho_held){0, a[1], day_of(s, k), (size_t)(a - s), len_of(s, k)};
 }
 
 tacho_written ref_store_append(uint8_t *s, size_t len, const uint8_t *a, size_t a_len, uint32_t second)
 {
-    const ref_form *f = ref_form_of(s, len);
     uint8_t number = ref_store_check(s, len);
     if (number) return (tacho_written){number, 0};
     if (a_len < 2 || a[0] != 0x76 || !ref_named(a[1], second)) return (tacho_written){12, 0};
     if (ref_store_find(s, a[1], second).number == 0) return (tacho_written){7, 0};
-    size_t n = count_of(f, s), t = stream_len_of(f, s);
-    if (n == REF_ANSWERS_MOST || a_len > REF_ANSWER_MOST || t + a_len > f->stream_most) return (tacho_written){8, 0};
-    size_t whole = entry_at(f, n + 1) + t + a_len;
+    size_t n = count_of(s), t = stream_len_of(s);
+    if (n + 1 > 64 || a_len > 60000 || t + a_len > 60000) return (tacho_written){8, 0};
+    size_t whole = stream_at(n + 1) + t + a_len;
     if (len < whole) return (tacho_written){4, 0};
-    put_last(f, s, a, a_len, stored_day(a[1], second));
+    uint8_t *e = s + stream_at(n), *stream = e + REF_STORE_ENTRY;
+    uint32_t day = stored_day(a[1], second);
+    memmove(stream, e, t);
+    memcpy(stream + t, a, a_len);
+    put16(e + REF_ENTRY_AT_DAY, day >> 16);
+    put16(e + REF_ENTRY_AT_DAY + 2, day);
+    put16(e + REF_ENTRY_AT_OFFSET, (uint32_t)t);
+    put16(e + REF_ENTRY_AT_LEN, (uint32_t)a_len);
+    put16(s + REF_STORE_AT_COUNT, (uint32_t)n + 1);
+    put16(s + REF_STORE_AT_STREAM_LEN, (uint32_t)(t + a_len));
     return (tacho_written){0, whole};
 }
 

@@ -1,4 +1,4 @@
-/* Document 01, The tool; document 02, Req 03, Req 05 and Req 08. */
+/* Document 01, The tool; document 02, Req 03 and Req 05. */
 #include "reference.h"
 #include "tables.h"
 
@@ -51,7 +51,7 @@ static bool waits(const tool *t, size_t room_len)
     if (t->request != TACHO_REQUEST_TRANSFER) return true;
     if (!ref_named(t->trep, t->day) || t->expected == 0) return false;
     uint64_t held = t->expected == 1 ? 0 : 2 + 251 * (uint64_t)(t->expected - 1);
-    return t->held == held && held <= room_len && held <= REF_ANSWER_MOST;
+    return t->held == held && held <= room_len && held <= 60000;
 }
 
 static size_t send_start(ref_output out)
@@ -114,11 +114,11 @@ static size_t failed_wait(tool *t, ref_output out)
     return send_frame(t, out);
 }
 
-/* New bytes, in two parts, behind those held; false where they pass the room or the longest answer. */
+/* New bytes, in two parts, behind those held; false where they pass the room or 60,000. */
 static bool hold(tool *t, const uint8_t *a, size_t a_len, const uint8_t *b, size_t b_len, uint8_t *room, size_t room_len)
 {
     size_t end = t->held + a_len + b_len;
-    if (end > room_len || end > REF_ANSWER_MOST) {
+    if (end > room_len || end > 60000) {
         t->outcome = TACHO_OUTCOME_NO_ROOM;
         return false;
     }

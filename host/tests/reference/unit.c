@@ -1,4 +1,4 @@
-/* Document 01, The unit; document 02, Req 03, Req 05 and Req 08. */
+/* Document 01, The unit; document 02, Req 03 and Req 05. */
 #include "reference.h"
 #include "tables.h"
 
@@ -117,15 +117,15 @@ static size_t on_acknowledge(unit *u, const uint8_t *store, const uint8_t *d, si
     if (u->phase != TACHO_PHASE_SENDING) return refuse(0x83, 0x22, reply);
     tacho_part a = ref_store_find(store, u->trep, u->day);
     uint32_t code = ref_be16(d + 2);
-    /* the stop first: behind number 65,534 it would be the next */
-    if (code == 0xFFFF) {
-        u->phase = TACHO_PHASE_GRANTED;
-        return 0;
+    if (code == u->last) return send_part(store, a, code, reply);
+    if (code == u->last + 1) {
+        if (code > frames_of(a.len)) return refuse(0x83, 0x12, reply);
+        u->last = code;
+        return send_part(store, a, code, reply);
     }
-    if (code != u->last && code != u->last + 1) return refuse(0x83, 0x22, reply);
-    if (code > frames_of(a.len)) return refuse(0x83, 0x12, reply);
-    u->last = code;
-    return send_part(store, a, code, reply);
+    if (code != 0xFFFF) return refuse(0x83, 0x22, reply);
+    u->phase = TACHO_PHASE_GRANTED;
+    return 0;
 }
 
 static size_t hear(unit *u, const uint8_t *store, const uint8_t *d, size_t n, ref_output reply)

@@ -1,10 +1,10 @@
 -- Offset, length, end.
-use Rattle.store.proofs.CheckLaws.{place-gap, place_short, place-long, place_is}
+use Rattle.store.proofs.CheckLaws.{place-gap, place_short, place_is}
 use borrow.Author.Rules.{rules}
 use Rattle.store.proofs.check.place_right.Statement.{statement}
 use Rattle.store.proofs.check.place_right.Tie as tie
 
-ruleset all = (rules, place-gap, place_short, place-long, place_is)
+ruleset all = (rules, place-gap, place_short, place_is)
 
 pub place-right-spec : {M : Type 1} → statement M
 place-right-spec = tie.close (tie.spec
@@ -13,5 +13,5 @@ place-right-spec = tie.close (tie.spec
     (λ c. search all)
     (λ c. search all)
     (λ c. search all)
-    (λ c. search all)
+    (λ c κs. search all)
     (λ c. search all))

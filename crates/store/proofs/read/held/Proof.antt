@@ -16,5 +16,4 @@ held_spec = tie.close (tie.spec
     (λ c κs. search all)
     (λ c κs. search all)
     (λ c κs. search all)
-    (λ c κs. search all)
     (λ c. search all))

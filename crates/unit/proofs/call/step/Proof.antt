@@ -23,6 +23,6 @@ step_spec =
     (λ c κs. search all)
     (λ c κs. search all)
     (λ c κs. search all)
-    (λ c κs. (search found-by, (search place-number, search place-data)))
+    (λ c κs. search all)
     (λ c. search all)
     (λ c. search all))

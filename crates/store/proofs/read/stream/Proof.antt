@@ -2,8 +2,8 @@
 use Rattle.store.specs.Read.{stream_part}
 use Rattle.octets.proofs.CallLaws.{part_of}
 use borrow.Author.Rules.{rules}
-use Rattle.store.proofs.call.stream.Statement.{statement}
-use Rattle.store.proofs.call.stream.Tie as tie
+use Rattle.store.proofs.read.stream.Statement.{statement}
+use Rattle.store.proofs.read.stream.Tie as tie
 
 pub stream-spec : {M : Type 1} → statement M
 unfolding stream_part

@@ -2,8 +2,8 @@
 use Rattle.store.specs.Read.{lookup_part}
 use Rattle.octets.proofs.CallLaws.{part_of}
 use borrow.Author.Rules.{rules}
-use Rattle.store.proofs.call.lookup.Statement.{statement}
-use Rattle.store.proofs.call.lookup.Tie as tie
+use Rattle.store.proofs.read.lookup.Statement.{statement}
+use Rattle.store.proofs.read.lookup.Tie as tie
 
 pub lookup-spec : {M : Type 1} → statement M
 unfolding lookup_part

@@ -1,8 +1,8 @@
 -- The number of the place.
 use Rattle.store.proofs.ReadLaws.{number-of-place}
 use borrow.Author.Rules.{rules}
-use Rattle.store.proofs.call.lookup_number.Statement.{statement}
-use Rattle.store.proofs.call.lookup_number.Tie as tie
+use Rattle.store.proofs.read.lookup_number.Statement.{statement}
+use Rattle.store.proofs.read.lookup_number.Tie as tie
 
 ruleset all = (rules, number-of-place)
 

@@ -10,51 +10,51 @@ use Rattle.fields.specs.BigEndian.{number_at}
 use Rattle.fields.proofs.NumberLaws.{read-two}
 use Rattle.catalog.specs.Table.{listed, known_to, is_activities}
 use Rattle.catalog.specs.Name.{day_stored, same_answer}
-use Rattle.store.specs.Layout.{old_form, header_size, entry_size, entries_size, answers, stream_length, name_at}
+use Rattle.store.specs.Layout.{narrow, header_size, entry_size, entries_size, answers, stream_length, name_at}
 use Rattle.store.specs.Check.{header_fits, counts_fit, filled_to, place_right, places_right, answer_right, answers_right, repeats, names_differ, count_read}
 use Rattle.store.specs.Check.{fault_at, store_fault, store_number}
 use Rattle.store.specs.Faults.{FaultExamples}
 use Rattle.store.specs.Contents.{back_to_back, entry_bytes, entries_from, store_of, contents, Holdable}
-use Rattle.store.proofs.FormLaws.{old-sized}
+use Rattle.store.proofs.FormLaws.{narrow-sized}
 use Rattle.store.proofs.Faults.{fault-claims}
 use Rattle.store.proofs.Theorems.{written-unbroken, written-contents}
 
 -- The empty store
 
-pub empty-is : store_of old_form [] ≡ 0 ∷ 0 ∷ 0 ∷ 0 ∷ []
+pub empty-is : store_of narrow [] ≡ 0 ∷ 0 ∷ 0 ∷ 0 ∷ []
 unfolding store_of entries_from back_to_back
 empty-is = refl
 
-empty-fit : Holdable old_form []
+empty-fit : Holdable narrow []
 unfolding back_to_back
-empty-fit = record { listed = λ i h. absurd (omega arith); different = λ i j l h e. omega arith; each = λ i h. absurd (omega arith); count = omega arith; stream = omega arith }
+empty-fit = record { listed = λ i h. absurd (omega arith); different = λ i j l h e. omega arith; count = omega arith; stream = omega arith }
 
-pub empty-unbroken : (rest : List ℕ) → store_number old_form (0 ∷ 0 ∷ 0 ∷ 0 ∷ rest) ≡ 0
+pub empty-unbroken : (rest : List ℕ) → store_number narrow (0 ∷ 0 ∷ 0 ∷ 0 ∷ rest) ≡ 0
 unfolding store_of entries_from back_to_back
-empty-unbroken rest = written-unbroken old_form old-sized [] rest empty-fit
+empty-unbroken rest = written-unbroken narrow narrow-sized [] rest empty-fit
 
-pub empty-contents : (rest : List ℕ) → contents old_form (0 ∷ 0 ∷ 0 ∷ 0 ∷ rest) ≡ []
+pub empty-contents : (rest : List ℕ) → contents narrow (0 ∷ 0 ∷ 0 ∷ 0 ∷ rest) ≡ []
 unfolding store_of entries_from back_to_back
-empty-contents rest = written-contents old_form old-sized [] rest empty-fit
+empty-contents rest = written-contents narrow narrow-sized [] rest empty-fit
 
 -- W12: "store with 02 02 under TREP 00"
 
 abbrev pub w12_bytes : List ℕ
 w12_bytes = 0x00 ∷ 0x01 ∷ 0x00 ∷ 0x04 ∷ 0x00 ∷ 0x00 ∷ 0x00 ∷ 0x00 ∷ 0x00 ∷ 0x00 ∷ 0x00 ∷ 0x04 ∷ 0x76 ∷ 0x00 ∷ 0x02 ∷ 0x02 ∷ []
 
-pub w12-is : store_of old_form (record { answer = 0x76 ∷ 0x00 ∷ 0x02 ∷ 0x02 ∷ []; day = 0 } ∷ []) ≡ w12_bytes
+pub w12-is : store_of narrow (record { answer = 0x76 ∷ 0x00 ∷ 0x02 ∷ 0x02 ∷ []; day = 0 } ∷ []) ≡ w12_bytes
 unfolding store_of entries_from entry_bytes back_to_back
 w12-is = refl
 
 -- The faults of some stores
 
-all-bits : (rest : List ℕ) → length rest ≡ 589815 → store_fault old_form (0x_fF ∷ 0x_fF ∷ 0x_fF ∷ 0x_fF ∷ rest) ≡ fault_at 14 65535
+all-bits : (rest : List ℕ) → length rest ≡ 589815 → store_fault narrow (0x_fF ∷ 0x_fF ∷ 0x_fF ∷ 0x_fF ∷ rest) ≡ fault_at 14 65535
 unfolding header_size entry_size entries_size
 all-bits rest l =
     let s : List ℕ = 0x_fF ∷ 0x_fF ∷ 0x_fF ∷ 0x_fF ∷ rest in
-    let n : 65535 ≡ answers old_form s = read-two 0 s 65535 2 (omega arith) (omega arith) refl refl in
-    let t : 65535 ≡ stream_length old_form s = read-two 2 s 65535 2 (omega arith) (omega arith) refl refl in
-    ((fault-claims old_form).fourteen 65535 s).1
+    let n : 65535 ≡ answers narrow s = read-two 0 s 65535 2 (omega arith) (omega arith) refl refl in
+    let t : 65535 ≡ stream_length narrow s = read-two 2 s 65535 2 (omega arith) (omega arith) refl refl in
+    ((fault-claims narrow).fourteen 65535 s).1
     (record { whole = record { header = omega arith; store = omega arith }; over = inl (omega arith); position = n })
 
 pub fault-examples : FaultExamples
