@@ -21,7 +21,7 @@ KEEP = re.compile(r"^(uint_\w+|shr_\w+|mut_\w+|to_z.*|loop.*|invariant-.*|decrea
 LIBRARIES = r"(?:Rattle\.std|lib|borrow|native|mathlib|denote|Prim|specs|logic)\b"
 WORD = r"[A-Za-z0-9_'\u2080-\u2089\u03b1-\u03c9-]"
 CAMEL = re.compile(r"^(?:[a-z0-9_]+-)*[a-z][a-z0-9]*(?:_[a-z0-9]+)*(?:[A-Z][a-z0-9]*)+(?:[-_'\u2080-\u2089].*)?$")
-TOKEN = re.compile(r"[A-Za-z_\u03b1-\u03c9]" + WORD + r"*")
+TOKEN = re.compile(r"(?<![0-9A-Za-z_])[A-Za-z_\u03b1-\u03c9]" + WORD + r"*")
 
 
 FACT = re.compile(r"^[ \t]*(?:pub[ \t]+|abbrev[ \t]+|unfoldable[ \t]+)*([a-z]" + WORD + r"*)[ \t]*:((?:[^\n]*\n)(?:[ \t]+[^\n=]*\n)*)", re.M)

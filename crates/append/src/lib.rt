@@ -1,4 +1,6 @@
 // Appending an answer to a bench store, in place (document 01, Bench store).
+#![tactic(auto)]
+
 ghost use Rattle.std.specs.Prelude.{◌≡◌, ◌++◌, ◌+◌, ◌≤◌, ◌<◌, length};
 ghost use Rattle.fields.specs.BigEndian.{bytes_of};
 ghost use Rattle.octets.specs.Buffer.{front, put};

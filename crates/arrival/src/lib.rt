@@ -1,4 +1,6 @@
 // What a string that arrives means to the download tool (document 01, The tool).
+#![tactic(auto)]
+
 use octets::Place;
 use split::Received;
 

@@ -1,6 +1,8 @@
 // Frames of the download protocol (document 01, Frames; DDP_002): judging, reading and writing them. The calls are in
 // `call`, with both addresses as given (document 02, Req 05); `check` and `write` are what stands behind their test of
 // the two, for crates whose own calls make it.
+#![tactic(auto)]
+
 pub mod call;
 pub mod check;
 pub mod front;
@@ -28,6 +30,6 @@ pub const WITHOUT_LEN: u8 = 0x81;
 
 // The lab's. Unit address EE, tool address F0.
 pub const LAB: Addresses = Addresses {
-    unit: 0x_eE,
-    tool: 0x_f0,
+    unit: 0xEE,
+    tool: 0xF0,
 };

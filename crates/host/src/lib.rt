@@ -1,5 +1,7 @@
 // The calls for C hosts on numbers and byte slices (host/include/tacho.h). Every call is total; the states of unit and
 // tool are packed bytes.
+#![tactic(auto)]
+
 pub mod arrays;
 pub mod bench_store;
 pub mod frames;

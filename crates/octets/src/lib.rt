@@ -1,5 +1,7 @@
 // Bytes: checksum, parts of slices, copying and shifting in lent buffers.
 // Also the house numbers of document 01 and the results that carry them.
+#![tactic(auto)]
+
 pub mod buffer;
 pub mod byte;
 pub mod numbers;

@@ -1,4 +1,6 @@
 // The download tool's state: how its request stands (document 01, The tool).
+#![tactic(auto)]
+
 use catalog::AnswerName;
 use split::SubMessage;
 

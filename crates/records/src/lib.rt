@@ -1,4 +1,6 @@
 // Record arrays of generation 2 (document 01, Record arrays): the arrays and records of an answer's data, by number.
+#![tactic(auto)]
+
 pub mod view;
 
 ghost use Rattle.std.specs.Prelude.{◌≡◌, ◌*◌, ◌≤◌, length};

@@ -1,4 +1,6 @@
 // A whole download in Rattle alone: both ends' calls on their own states, without packing and without C.
+#![tactic(auto)]
+
 mod ends;
 mod print;
 mod sample;

@@ -1,6 +1,8 @@
 // Answers in one frame or in several sub messages (document 01, Splitting; DDP_003, DDP_004), and their joining. The
 // call that writes one, with both addresses as given (document 02, Req 05), is in `call`; `write` is what stands behind
 // its test of the two.
+#![tactic(auto)]
+
 pub mod call;
 pub mod codes;
 pub mod join;

@@ -1,4 +1,6 @@
 // The states of unit and tool as bytes that a host keeps, and what it reads of them.
+#![tactic(auto)]
+
 pub mod pack_tool;
 pub mod pack_unit;
 pub mod readers;

@@ -1,4 +1,6 @@
 // The bench store (document 01, Bench store and stream; DDP_034): its layout, its check, and reading it.
+#![tactic(auto)]
+
 pub mod answer;
 pub mod check;
 pub mod layout;

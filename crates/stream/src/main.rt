@@ -1,4 +1,6 @@
 // A store on standard input, its stream (DDP_034) on standard output; nothing if the store is broken.
+#![tactic(auto)]
+
 use libc::{STDIN_FILENO, STDOUT_FILENO};
 
 // The longest store: header, 64 entries and 60,000 stream bytes. What follows it is not looked at.

@@ -1,4 +1,6 @@
 // The download tool (document 01, The tool): what follows from every begin and event, and its calls.
+#![tactic(auto)]
+
 use progress::ToolState;
 
 mod after;

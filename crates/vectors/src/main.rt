@@ -1,5 +1,7 @@
 // Runs the frames of source document 003's table, the lengths of document 01's trade cases, and the days and the
 // addresses of document 02, one line for each.
+#![tactic(auto)]
+
 mod addresses;
 mod days;
 mod lengths;
