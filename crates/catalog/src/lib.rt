@@ -41,7 +41,7 @@ const TRTP: [u8; 18] = [
 ];
 
 // An answer's name: which data, and for activities any second of the day.
-#[derive(Drop)]
+#[derive(Clone, Copy)]
 pub struct AnswerName {
     pub trep: u8,
     pub day: u32,

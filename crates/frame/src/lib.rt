@@ -10,14 +10,14 @@ pub mod messages;
 pub mod write;
 
 // The two ends of the line.
-#[derive(Drop)]
+#[derive(Clone, Copy)]
 pub enum End {
     Unit,
     Tool,
 }
 
 // The addresses of both ends.
-#[derive(Drop)]
+#[derive(Clone, Copy)]
 pub struct Addresses {
     pub unit: u8,
     pub tool: u8,

@@ -6,7 +6,7 @@ ghost use Rattle.records.specs.Arrays.{record_of};
 ghost use Rattle.records.specs.View.{place_in, part_in, shown, viewed, view_number, view_record, view_record_number};
 
 // The records of an array, and its header: kind is the record type. Refused, all zero with no records.
-#[derive(Drop)]
+#[derive(Clone, Copy)]
 pub struct ArrayView<'a> {
     pub records: &'a [u8],
     pub kind: u8,

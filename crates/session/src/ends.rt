@@ -7,7 +7,7 @@ use progress::{Outcome, Request, ToolState};
 use services::UnitState;
 
 // Both states, the length of the frame that is out, and how often the unit was called.
-#[derive(Drop)]
+#[derive(Clone, Copy)]
 pub struct Session {
     pub unit: UnitState,
     pub tool: ToolState,
