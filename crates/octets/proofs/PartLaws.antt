@@ -3,7 +3,7 @@ use Rattle.std.proofs.Common.{◌≡◌, ℕ, zero, suc, ◌+◌, ◌<◌, ◌�
 use native.Mathlib.Decide.{dec_lt}
 use lib.ListN.{get_or-eq_default}
 use lib.Seq.{take-append-le, drop-append-le}
-use Rattle.octets.specs.Buffer.{Bytes, part_at, front, put}
+use Rattle.octets.specs.Buffer.{Bytes, part_at, front}
 
 -- Parts
 
