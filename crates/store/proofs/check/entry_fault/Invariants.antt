@@ -1,0 +1,15 @@
+-- The entries in front that are in their places: all of them, or up to one that is not.
+use Prim.Native.Nat.{◌-◌, ◌≤◌}
+use mathlib.Core.Path.{◌≡◌}
+use Rattle.octets.specs.Search.{first_from, first_of}
+use Rattle.store.specs.Layout.{narrow, stream_length}
+use Rattle.store.specs.Check.{filled_to}
+use Rattle.store.proofs.CheckLaws.{misplaced}
+use Rattle.store.proofs.check.entry_fault.Given as goal
+
+abbrev pub invariant-loop-i : goal.invariant-loop-i
+invariant-loop-i l = (l.i ≤ l.n) × (l.end ≡ filled_to narrow l.i l.store) × (l.end ≤ stream_length narrow l.store)
+    × (first_of (misplaced narrow l.store) l.n ≡ first_from (misplaced narrow l.store) (l.n - l.i) l.i)
+
+abbrev pub decreases-loop-i : goal.decreases-loop-i
+decreases-loop-i l = l.n - l.i

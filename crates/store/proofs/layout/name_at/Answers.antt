@@ -1,0 +1,9 @@
+-- TREP and day are read at their places.
+use Rattle.store.proofs.CheckLaws.{name-is}
+use Rattle.std.proofs.Common.{rules}
+use Rattle.store.proofs.layout.name_at.Goals as goal
+
+ruleset all = (rules, name-is)
+
+pub returns : goal.returns
+returns c = search all
