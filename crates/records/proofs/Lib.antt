@@ -5,6 +5,5 @@ pub mod RecordLaws
 pub mod WrittenLaws
 pub mod ReadLaws
 pub mod Theorems
-pub mod ViewWalk
 pub mod ViewTheorems
 pub mod Claims

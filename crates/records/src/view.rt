@@ -1,6 +1,5 @@
 // The view of one array (document 01, Record arrays): a reference to the array's own slice, beside what its header
-// says. The work is done on plain slices and numbers; a function over the view only takes it apart or puts it together,
-// since each is proved by hand.
+// says. The work is done on plain slices and numbers; a function over the view only takes it apart or puts it together.
 ghost use Rattle.std.specs.Prelude.{◌≡◌};
 ghost use Rattle.records.specs.Arrays.{record_of};
 ghost use Rattle.records.specs.View.{place_in, part_in, shown, viewed, view_number, view_record, view_record_number};
