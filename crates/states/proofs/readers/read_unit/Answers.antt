@@ -1,0 +1,13 @@
+-- No state, or the number of the state.
+use Rattle.states.specs.Readers.{unit_value, unit_read}
+use Rattle.states.proofs.ReaderLaws.{no-state, state-read}
+use Rattle.std.proofs.Common.{rules}
+use Rattle.states.proofs.readers.read_unit.Goals as goal
+
+pub returns-then-not-is_state : goal.returns-then-not-is_state
+unfolding unit_read
+returns-then-not-is_state c = search (rules, no-state)
+
+pub returns : goal.returns
+unfolding unit_read
+returns c = search (rules, state-read unit_value)
