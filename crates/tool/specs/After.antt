@@ -4,7 +4,7 @@ use Rattle.octets.specs.Buffer.{put}
 use Rattle.frame.specs.declared.Addresses.{Addresses}
 use Rattle.frame.specs.declared.End.TheVariants as ends
 use Rattle.frame.specs.Frame.{frame_of}
-use Rattle.split.specs.Codes.{sub, stop_code}
+use Rattle.split.specs.Codes.{stop_code}
 use Rattle.progress.specs.declared.Outcome.TheVariants.{Done, NoRoom, Refused}
 use Rattle.progress.specs.declared.ToolState.{ToolState}
 use Rattle.arrival.specs.declared.Meaning.{Meaning}
