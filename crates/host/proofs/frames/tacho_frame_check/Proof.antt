@@ -1,7 +1,0 @@
--- The end that the flag names.
-use borrow.Author.Rules.{rules}
-use Rattle.host.proofs.frames.tacho_frame_check.Statement.{statement}
-use Rattle.host.proofs.frames.tacho_frame_check.Tie as tie
-
-pub tacho-frame-check-spec : {M : Type 1} → statement M
-tacho-frame-check-spec = tie.close (tie.spec (λ c κs. search rules) (λ c κs. search rules) (λ c. cc))
