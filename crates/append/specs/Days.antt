@@ -71,12 +71,12 @@ abbrev pub day_store : List ℕ
 day_store =
     0x00 ∷ 0x01 ∷ 0x00 ∷ 0x03
     ∷ 0x00 ∷ 0x01 ∷ 0x51 ∷ 0x80 ∷ 0x00 ∷ 0x00 ∷ 0x00 ∷ 0x03
-    ∷ 0x76 ∷ 0x02 ∷ 0x_aA
+    ∷ 0x76 ∷ 0x02 ∷ 0xAA
     ∷ 0x00 ∷ 0x00 ∷ 0x00 ∷ 0x00 ∷ 0x00 ∷ []
 
 pub record DayExamples : Type 0 where
-  pub result : append_result old_form (0x76 ∷ 0x02 ∷ 0x_aA ∷ []) 86401 (replicate 20 0x00) ≡ written_by done 15
-  pub store : append_out old_form (0x76 ∷ 0x02 ∷ 0x_aA ∷ []) 86401 (replicate 20 0x00) ≡ day_store
+  pub result : append_result old_form (0x76 ∷ 0x02 ∷ 0xAA ∷ []) 86401 (replicate 20 0x00) ≡ written_by done 15
+  pub store : append_out old_form (0x76 ∷ 0x02 ∷ 0xAA ∷ []) 86401 (replicate 20 0x00) ≡ day_store
   -- found by the last second of the day, not by the one before its first
   pub found : lookup_place old_form (record { trep = 0x02; day = 172799 }) day_store
       ≡ record { number = done; start = 12; len = 3 }

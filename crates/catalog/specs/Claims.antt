@@ -16,7 +16,7 @@ pub record DayClaims : Type 0 where
   pub end_of_zero : (day_of 86399 ≡ 0) × (first_second 86399 ≡ 0)
   pub begin_of_one : (day_of 0x00015180 ≡ 1) × (first_second 0x00015180 ≡ 86400)
   pub end_of_one : (day_of 172799 ≡ 1) × (first_second 172799 ≡ 86400)
-  pub end_of_all : (day_of 0x_fFFFFFFF ≡ 49710) × (first_second 0x_fFFFFFFF ≡ 0x_fFFFA500)
+  pub end_of_all : (day_of 0xFFFFFFFF ≡ 49710) × (first_second 0xFFFFFFFF ≡ 0xFFFFA500)
 
 -- 12 for a name, without the clause that it lost
 pub data Unnamed (name : AnswerName) : Type 0 where

@@ -4,7 +4,7 @@ use Rattle.octets.specs.Search.{any_of}
 
 -- no TRTP: stands where a kind has no such transfer type
 abbrev pub absent : ℕ
-absent = 0x_fF
+absent = 0xFF
 
 -- rows: interface version, overview, activities of a day, events and faults, detailed speed, technical data;
 -- columns: generation 1, generation 2 version 1, generation 2 version 2

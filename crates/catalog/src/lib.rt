@@ -20,12 +20,12 @@ const TRANSFER_TYPES: u8 = 6;
 const ACTIVITIES: u8 = 2;
 
 // Where a kind has no such transfer type. FF is no TRTP, so an absent entry never looks present.
-pub const ABSENT: u8 = 0x_fF;
+pub const ABSENT: u8 = 0xFF;
 
 // TRTP by transfer type (rows) and kind (columns), as document 01 prints it.
 const TRTP: [u8; 18] = [
     // interface version
-    0x_fF, 0x_fF, 0x00,
+    0xFF, 0xFF, 0x00,
     // overview
     0x01, 0x21, 0x31,
     // activities of a day
@@ -46,7 +46,7 @@ pub struct AnswerName {
 }
 
 // A name that no answer has.
-pub const NO_ANSWER: AnswerName = AnswerName { trep: 0x_fF, day: 0 };
+pub const NO_ANSWER: AnswerName = AnswerName { trep: 0xFF, day: 0 };
 
 // The TRTP of the transfer type in this row at a kind, FF where there is none.
 pub fn trtp(row: u8, kind: u8) -> u8

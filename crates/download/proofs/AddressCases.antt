@@ -19,10 +19,10 @@ use Rattle.download.proofs.Runs.{calls}
 use Rattle.download.proofs.ServiceFacts.{not-refused}
 
 abbrev start : List ℕ
-start = 0x81 ∷ 0x_eE ∷ 0x_fB ∷ 0x81 ∷ 0x_eB ∷ []
+start = 0x81 ∷ 0xEE ∷ 0xFB ∷ 0x81 ∷ 0xEB ∷ []
 
 abbrev labs_start : List ℕ
-labs_start = 0x81 ∷ 0x_eE ∷ 0x_f0 ∷ 0x81 ∷ 0x_e0 ∷ []
+labs_start = 0x81 ∷ 0xEE ∷ 0xF0 ∷ 0x81 ∷ 0xE0 ∷ []
 
 start-good : judged remote ends.Unit start ≡ 0
 unfolding calls
@@ -36,7 +36,7 @@ starts : (store : List ℕ) (u : UnitState) → reaction_to remote store u start
 unfolding calls
 starts store u = refl
 
-reply-bytes : (store : List ℕ) → reply_to remote (reply_data store CommunicationStarted) ≡ 0x80 ∷ 0x_fB ∷ 0x_eE ∷ 0x03 ∷ 0x_c1 ∷ 0x_eA ∷ 0x8_f ∷ 0x_a6 ∷ []
+reply-bytes : (store : List ℕ) → reply_to remote (reply_data store CommunicationStarted) ≡ 0x80 ∷ 0xFB ∷ 0xEE ∷ 0x03 ∷ 0xC1 ∷ 0xEA ∷ 0x8F ∷ 0xA6 ∷ []
 unfolding reply_to reply_data frame_of closed
 reply-bytes store = refl
 
@@ -48,7 +48,7 @@ module _ (store : List ℕ) (kind out_len : ℕ) (c : Called store (closed_unit 
   number : unit_number remote store out_len (closed_unit kind) start ≡ 0
   number = not-refused remote store (closed_unit kind) out_len start c.unbroken c.possible (le-leb 260 out_len c.roomy) start-good
 
-  reply : unit_reply remote store out_len (closed_unit kind) start ≡ 0x80 ∷ 0x_fB ∷ 0x_eE ∷ 0x03 ∷ 0x_c1 ∷ 0x_eA ∷ 0x8_f ∷ 0x_a6 ∷ []
+  reply : unit_reply remote store out_len (closed_unit kind) start ≡ 0x80 ∷ 0xFB ∷ 0xEE ∷ 0x03 ∷ 0xC1 ∷ 0xEA ∷ 0x8F ∷ 0xA6 ∷ []
   unfolding unit_reply
   reply = rw (number, starts store (closed_unit kind)) (reply-bytes store)
 
@@ -65,7 +65,7 @@ lab-start : (store : List ℕ) (u : UnitState) (out_len : ℕ) → Called store 
 unfolding unit_result_given different unit_result unit_state unit_reply unit_number number_before
 lab-start store u out_len c = rw (c.unbroken, c.possible, le-leb 260 out_len c.roomy, lab-refused)
 
-code-2 : (name : AnswerName) → frame_sent remote requests.Transfer name 2 ≡ 0x80 ∷ 0x_eE ∷ 0x_fB ∷ 0x04 ∷ 0x83 ∷ 0x76 ∷ 0x00 ∷ 0x02 ∷ 0x68 ∷ []
+code-2 : (name : AnswerName) → frame_sent remote requests.Transfer name 2 ≡ 0x80 ∷ 0xEE ∷ 0xFB ∷ 0x04 ∷ 0x83 ∷ 0x76 ∷ 0x00 ∷ 0x02 ∷ 0x68 ∷ []
 unfolding calls
 code-2 name = refl
 

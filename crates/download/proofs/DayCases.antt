@@ -44,7 +44,7 @@ module _ (u : UnitState) (room : ℕ) (c : Called day_store u room) (k : u.kind 
   unfolding calls
   granted-reaction p = rw (k, p)
 
-  granted : u.phase ≡ Granted → unit_reply lab day_store room u day_request ≡ 0x80 ∷ 0x_f0 ∷ 0x_eE ∷ 0x03 ∷ 0x76 ∷ 0x02 ∷ 0x_aA ∷ 0x83 ∷ []
+  granted : u.phase ≡ Granted → unit_reply lab day_store room u day_request ≡ 0x80 ∷ 0xF0 ∷ 0xEE ∷ 0x03 ∷ 0x76 ∷ 0x02 ∷ 0xAA ∷ 0x83 ∷ []
   unfolding calls
   granted p = reply day_store u room c day_request _ refl (granted-reaction p)
 
@@ -52,7 +52,7 @@ module _ (u : UnitState) (room : ℕ) (c : Called day_store u room) (k : u.kind 
   unfolding calls
   session-reaction p = rw (k, p)
 
-  session : u.phase ≡ Session → unit_reply lab day_store room u day_request ≡ 0x80 ∷ 0x_f0 ∷ 0x_eE ∷ 0x03 ∷ 0x7_f ∷ 0x36 ∷ 0x22 ∷ 0x38 ∷ []
+  session : u.phase ≡ Session → unit_reply lab day_store room u day_request ≡ 0x80 ∷ 0xF0 ∷ 0xEE ∷ 0x03 ∷ 0x7F ∷ 0x36 ∷ 0x22 ∷ 0x38 ∷ []
   unfolding calls
   session p = reply day_store u room c day_request _ refl (session-reaction p)
 

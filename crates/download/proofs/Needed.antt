@@ -98,7 +98,7 @@ record Needed : Type 0 where
   -- the unit knows the type: 12 from generation 1
   known : Apart (after (record { kind = 0; rate = 1; pending = 0; phase = Granted }) four 260 (exchange store12)) (Refused 0x12) books.waiting
   -- the store holds the answer: FA from an empty one
-  held : Apart (after (v2 Granted) four 260 (exchange (0x00 ∷ 0x00 ∷ 0x00 ∷ 0x00 ∷ []))) (Refused 0x_fA) books.waiting
+  held : Apart (after (v2 Granted) four 260 (exchange (0x00 ∷ 0x00 ∷ 0x00 ∷ 0x00 ∷ []))) (Refused 0xFA) books.waiting
   -- the answer is unchanged: other bytes are taken
   unchanged : Apart (after (v2 Granted) four 260 (exchange changed_store)) Done books.waiting
   -- the room suffices

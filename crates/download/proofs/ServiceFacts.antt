@@ -124,8 +124,8 @@ module _ (place : Place) (name : AnswerName) (n : ℕ) (h : suc n ≤ messages_m
   code_is : number_at 2 2 (acknowledgement (acknowledge_of (sub n))) ≡ suc n
   code_is = code-back n (omega arith)
 
-  not-stop : eqb (suc n) 0x_fFFF ≡ false
-  not-stop = ne_eqb (suc n) 0x_fFFF (λ z. omega arith)
+  not-stop : eqb (suc n) 0xFFFF ≡ false
+  not-stop = ne_eqb (suc n) 0xFFFF (λ z. omega arith)
 
   -- n + 1 was sent last: it is sent again
   pub sent-again : on_acknowledge (Sending name (sub (suc n))) place (acknowledgement (acknowledge_of (sub n))) ≡ AnswerSent name (sub (suc n)) place

@@ -53,28 +53,28 @@ module _ (store : List ℕ) (u : UnitState) (room : ℕ) (c : Called store u roo
   next b r j e = rw (not-refused lab store u room b c.unbroken c.possible (le-leb 260 room c.roomy) j, e)
 
   w1 : u.phase ≡ Started
-      → unit_reply lab store room u (0x80 ∷ 0x_eE ∷ 0x_f0 ∷ 0x02 ∷ 0x10 ∷ 0x81 ∷ 0x_f1 ∷ []) ≡ 0x80 ∷ 0x_f0 ∷ 0x_eE ∷ 0x02 ∷ 0x50 ∷ 0x81 ∷ 0x31 ∷ []
+      → unit_reply lab store room u (0x80 ∷ 0xEE ∷ 0xF0 ∷ 0x02 ∷ 0x10 ∷ 0x81 ∷ 0xF1 ∷ []) ≡ 0x80 ∷ 0xF0 ∷ 0xEE ∷ 0x02 ∷ 0x50 ∷ 0x81 ∷ 0x31 ∷ []
   unfolding calls on_session
-  w1 p = reply (0x80 ∷ 0x_eE ∷ 0x_f0 ∷ 0x02 ∷ 0x10 ∷ 0x81 ∷ 0x_f1 ∷ []) SessionOpened refl (rw p)
+  w1 p = reply (0x80 ∷ 0xEE ∷ 0xF0 ∷ 0x02 ∷ 0x10 ∷ 0x81 ∷ 0xF1 ∷ []) SessionOpened refl (rw p)
 
   w2 : u.phase ≡ Session
-      → unit_reply lab store room u (0x80 ∷ 0x_eE ∷ 0x_f0 ∷ 0x0_a ∷ 0x35 ∷ 0x00 ∷ 0x00 ∷ 0x00 ∷ 0x00 ∷ 0x00 ∷ 0x_fF ∷ 0x_fF ∷ 0x_fF ∷ 0x_fF ∷ 0x99 ∷ [])
-      ≡ 0x80 ∷ 0x_f0 ∷ 0x_eE ∷ 0x03 ∷ 0x75 ∷ 0x00 ∷ 0x_fF ∷ 0x_d5 ∷ []
+      → unit_reply lab store room u (0x80 ∷ 0xEE ∷ 0xF0 ∷ 0x0A ∷ 0x35 ∷ 0x00 ∷ 0x00 ∷ 0x00 ∷ 0x00 ∷ 0x00 ∷ 0xFF ∷ 0xFF ∷ 0xFF ∷ 0xFF ∷ 0x99 ∷ [])
+      ≡ 0x80 ∷ 0xF0 ∷ 0xEE ∷ 0x03 ∷ 0x75 ∷ 0x00 ∷ 0xFF ∷ 0xD5 ∷ []
   unfolding calls on_upload
-  w2 p = reply (0x80 ∷ 0x_eE ∷ 0x_f0 ∷ 0x0_a ∷ 0x35 ∷ 0x00 ∷ 0x00 ∷ 0x00 ∷ 0x00 ∷ 0x00 ∷ 0x_fF ∷ 0x_fF ∷ 0x_fF ∷ 0x_fF ∷ 0x99 ∷ []) UploadGranted refl (rw p)
+  w2 p = reply (0x80 ∷ 0xEE ∷ 0xF0 ∷ 0x0A ∷ 0x35 ∷ 0x00 ∷ 0x00 ∷ 0x00 ∷ 0x00 ∷ 0x00 ∷ 0xFF ∷ 0xFF ∷ 0xFF ∷ 0xFF ∷ 0x99 ∷ []) UploadGranted refl (rw p)
 
 w3-reaction : (u : UnitState) → u.kind ≡ 2 → u.phase ≡ Granted
-    → reaction_to lab store12 u (0x80 ∷ 0x_eE ∷ 0x_f0 ∷ 0x02 ∷ 0x36 ∷ 0x00 ∷ 0x96 ∷ []) ≡ AnswerSent (record { trep = 0x00; day = 0 }) (sub 1)
+    → reaction_to lab store12 u (0x80 ∷ 0xEE ∷ 0xF0 ∷ 0x02 ∷ 0x36 ∷ 0x00 ∷ 0x96 ∷ []) ≡ AnswerSent (record { trep = 0x00; day = 0 }) (sub 1)
     (record { number = 0; start = 12; len = 4 })
 unfolding calls
 w3-reaction u k p = rw (k, p)
 
 w3 : (u : UnitState) (room : ℕ) → Called store12 u room → u.kind ≡ 2 → u.phase ≡ Granted
-    → unit_reply lab store12 room u (0x80 ∷ 0x_eE ∷ 0x_f0 ∷ 0x02 ∷ 0x36 ∷ 0x00 ∷ 0x96 ∷ []) ≡ 0x80 ∷ 0x_f0 ∷ 0x_eE ∷ 0x04 ∷ 0x76 ∷ 0x00 ∷ 0x02 ∷ 0x02 ∷ 0x_dC ∷ []
+    → unit_reply lab store12 room u (0x80 ∷ 0xEE ∷ 0xF0 ∷ 0x02 ∷ 0x36 ∷ 0x00 ∷ 0x96 ∷ []) ≡ 0x80 ∷ 0xF0 ∷ 0xEE ∷ 0x04 ∷ 0x76 ∷ 0x00 ∷ 0x02 ∷ 0x02 ∷ 0xDC ∷ []
 unfolding calls
-w3 u room c k p = reply store12 u room c (0x80 ∷ 0x_eE ∷ 0x_f0 ∷ 0x02 ∷ 0x36 ∷ 0x00 ∷ 0x96 ∷ []) _ refl (w3-reaction u k p)
+w3 u room c k p = reply store12 u room c (0x80 ∷ 0xEE ∷ 0xF0 ∷ 0x02 ∷ 0x36 ∷ 0x00 ∷ 0x96 ∷ []) _ refl (w3-reaction u k p)
 
-w11 : (name : AnswerName) → frame_sent lab requests.Transfer name 2 ≡ 0x80 ∷ 0x_eE ∷ 0x_f0 ∷ 0x04 ∷ 0x83 ∷ 0x76 ∷ 0x00 ∷ 0x02 ∷ 0x5_d ∷ []
+w11 : (name : AnswerName) → frame_sent lab requests.Transfer name 2 ≡ 0x80 ∷ 0xEE ∷ 0xF0 ∷ 0x04 ∷ 0x83 ∷ 0x76 ∷ 0x00 ∷ 0x02 ∷ 0x5D ∷ []
 unfolding acknowledgement transfer_data frame_sent closed frame_of
 w11 name = refl
 
@@ -97,22 +97,22 @@ unfolding frames_from sub_frame frame_of closed
 lens-three trep d e = rw e
 
 module _ (trep : ℕ) (d : List ℕ) where
-  w7 : length d ≡ 252 → lens trep d ≡ 0x_fE ∷ []
+  w7 : length d ≡ 252 → lens trep d ≡ 0xFE ∷ []
   w7 e =
       let s = split-252 trep d e in
       rw (lens-one trep d s.0, s.1)
 
-  w8 : length d ≡ 253 → lens trep d ≡ 0x_fF ∷ 0x06 ∷ []
+  w8 : length d ≡ 253 → lens trep d ≡ 0xFF ∷ 0x06 ∷ []
   w8 e =
       let s = split-253 trep d e in
       rw (lens-two trep d s.0, s.1, s.2)
 
-  w9 : length d ≡ 501 → lens trep d ≡ 0x_fF ∷ 0x_fE ∷ []
+  w9 : length d ≡ 501 → lens trep d ≡ 0xFF ∷ 0xFE ∷ []
   w9 e =
       let s = split-501 trep d e in
       rw (lens-two trep d s.0, s.1, s.2)
 
-  w10 : length d ≡ 502 → lens trep d ≡ 0x_fF ∷ 0x_fF ∷ 0x04 ∷ []
+  w10 : length d ≡ 502 → lens trep d ≡ 0xFF ∷ 0xFF ∷ 0x04 ∷ []
   w10 e =
       let s = split-502 trep d e in
       rw (lens-three trep d s.0, s.1, s.2, s.3)
@@ -139,19 +139,19 @@ module _ (store : List ℕ) (u : UnitState) (room : ℕ) (c : Called store u roo
       reply store u room c (frame_of lab ends.Unit (transfer_request name)) r (asked-good lab name 1) (transfer-reaction name q o ∙ e)
 
   w4 : (name : AnswerName) → Asked u name → is_granted u.phase ≡ true → lookup_number (form_of store) name store ≡ 6
-      → unit_reply lab store room u (frame_of lab ends.Unit (transfer_request name)) ≡ 0x80 ∷ 0x_f0 ∷ 0x_eE ∷ 0x03 ∷ 0x7_f ∷ 0x36 ∷ 0x_fA ∷ 0x10 ∷ []
+      → unit_reply lab store room u (frame_of lab ends.Unit (transfer_request name)) ≡ 0x80 ∷ 0xF0 ∷ 0xEE ∷ 0x03 ∷ 0x7F ∷ 0x36 ∷ 0xFA ∷ 0x10 ∷ []
   unfolding answer_from closed frame_of reply_data reply_to
   w4 name q g n =
       let z : (lookup_place (form_of store) name store).number ≡ 6 = number-of-place (form_of store) store name (lookup_place (form_of store) name store) refl ∙ n in
-      transfer-reply name (Negative 0x36 0x_fA) q (granted-open u.phase g) (rw (g, z))
+      transfer-reply name (Negative 0x36 0xFA) q (granted-open u.phase g) (rw (g, z))
 
   w5 : (name : AnswerName) → Asked u name → u.phase ≡ Session
-      → unit_reply lab store room u (frame_of lab ends.Unit (transfer_request name)) ≡ 0x80 ∷ 0x_f0 ∷ 0x_eE ∷ 0x03 ∷ 0x7_f ∷ 0x36 ∷ 0x22 ∷ 0x38 ∷ []
+      → unit_reply lab store room u (frame_of lab ends.Unit (transfer_request name)) ≡ 0x80 ∷ 0xF0 ∷ 0xEE ∷ 0x03 ∷ 0x7F ∷ 0x36 ∷ 0x22 ∷ 0x38 ∷ []
   unfolding closed frame_of reply_data reply_to
   w5 name q p = transfer-reply name (Negative 0x36 0x22) q (rw p) (rw p)
 
   w6 : (name : AnswerName) (last : ℕ) → last < messages_most → u.phase ≡ Sending name (sub last) → last ≡ count_of (length (drop 2 (lookup_part (form_of store) name store)))
-      → unit_reply lab store room u (frame_of lab ends.Unit (acknowledgement (acknowledge_of (sub last)))) ≡ 0x80 ∷ 0x_f0 ∷ 0x_eE ∷ 0x03 ∷ 0x7_f ∷ 0x83
+      → unit_reply lab store room u (frame_of lab ends.Unit (acknowledgement (acknowledge_of (sub last)))) ≡ 0x80 ∷ 0xF0 ∷ 0xEE ∷ 0x03 ∷ 0x7F ∷ 0x83
       ∷ 0x12 ∷ 0x75 ∷ []
   unfolding closed frame_of reply_data reply_to acknowledgement on_data
   w6 name last b p e =

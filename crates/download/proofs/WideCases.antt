@@ -33,13 +33,13 @@ field-none trep k d h l =
     rw (lt-ltb 252 (length d) h, z)
 
 last_frame_lem : (d : List ℕ) → length d ≡ 16448783
-    → sub_frame lab 0x24 messages_most d ≡ 0x80 ∷ 0x_f0 ∷ 0x_eE ∷ 0x04 ∷ 0x76 ∷ 0x24 ∷ 0x_fF ∷ 0x_fE ∷ 0x_f9 ∷ []
+    → sub_frame lab 0x24 messages_most d ≡ 0x80 ∷ 0xF0 ∷ 0xEE ∷ 0x04 ∷ 0x76 ∷ 0x24 ∷ 0xFF ∷ 0xFE ∷ 0xF9 ∷ []
 unfolding sub_frame frame_of closed
 last_frame_lem d l = ap (frame_of lab ends.Tool) (field-none 0x24 messages_most d (omega arith) (omega arith))
 
 module _ (store : List ℕ) (u : UnitState) (room : ℕ) (name : AnswerName) (last : SubMessage) (c : Called store u room) (p : u.phase ≡ Sending name last) where
   abbrev stop : List ℕ
-  stop = 0x80 ∷ 0x_eE ∷ 0x_f0 ∷ 0x04 ∷ 0x83 ∷ 0x76 ∷ 0x_fF ∷ 0x_fF ∷ 0x59 ∷ []
+  stop = 0x80 ∷ 0xEE ∷ 0xF0 ∷ 0x04 ∷ 0x83 ∷ 0x76 ∷ 0xFF ∷ 0xFF ∷ 0x59 ∷ []
 
   stop-reply : unit_reply lab store room u stop ≡ []
   unfolding calls

@@ -43,7 +43,7 @@ interface = record { trep = 0x00; day = 0 }
 -- two answers, 76 31 and 502 bytes, and 76 00 02 02
 abbrev store : List ℕ
 store =
-    0x00 ∷ 0x02 ∷ 0x01 ∷ 0x_fC ∷ 0x00 ∷ 0x00 ∷ 0x00 ∷ 0x00 ∷ 0x00 ∷ 0x00 ∷ 0x01 ∷ 0x_f8 ∷ 0x00 ∷ 0x00 ∷ 0x00 ∷ 0x00 ∷ 0x01 ∷ 0x_f8 ∷ 0x00 ∷ 0x04
+    0x00 ∷ 0x02 ∷ 0x01 ∷ 0xFC ∷ 0x00 ∷ 0x00 ∷ 0x00 ∷ 0x00 ∷ 0x00 ∷ 0x00 ∷ 0x01 ∷ 0xF8 ∷ 0x00 ∷ 0x00 ∷ 0x00 ∷ 0x00 ∷ 0x01 ∷ 0xF8 ∷ 0x00 ∷ 0x04
     ∷ 0x76 ∷ 0x31 ∷ (replicate 502 0x07 ++ 0x76 ∷ 0x00 ∷ 0x02 ∷ 0x02 ∷ [])
 
 abbrev unit : Phase → UnitState
@@ -64,7 +64,7 @@ sending-overview = record { held = refl; bytes = refl }
 
 -- another store, with the first answer alone
 abbrev other_store : List ℕ
-other_store = 0x00 ∷ 0x01 ∷ 0x01 ∷ 0x_f8 ∷ 0x00 ∷ 0x00 ∷ 0x00 ∷ 0x00 ∷ 0x00 ∷ 0x00 ∷ 0x01 ∷ 0x_f8 ∷ 0x76 ∷ 0x31 ∷ replicate 502 0x07
+other_store = 0x00 ∷ 0x01 ∷ 0x01 ∷ 0xF8 ∷ 0x00 ∷ 0x00 ∷ 0x00 ∷ 0x00 ∷ 0x00 ∷ 0x00 ∷ 0x01 ∷ 0xF8 ∷ 0x76 ∷ 0x31 ∷ replicate 502 0x07
 
 other-overview : Holds other_store overview (0x76 ∷ 0x31 ∷ replicate 502 0x07)
 unfolding lookups
@@ -318,7 +318,7 @@ one-agrees = (demand3-lab one_frame exchange).clean (((refl, record { this = hol
 abbrev noon : AnswerName
 noon = record { trep = 0x02; day = 129600 }
 
-holds-noon : Holds day_store noon (0x76 ∷ 0x02 ∷ 0x_aA ∷ [])
+holds-noon : Holds day_store noon (0x76 ∷ 0x02 ∷ 0xAA ∷ [])
 unfolding lookups
 holds-noon = record { held = refl; bytes = refl }
 
@@ -341,7 +341,7 @@ abbrev by_noon : Premises
 by_noon =
     record {
       name = noon;
-      answer = 0x76 ∷ 0x02 ∷ 0x_aA ∷ [];
+      answer = 0x76 ∷ 0x02 ∷ 0xAA ∷ [];
       unit = older;
       store = day_store;
       tool = fresh_tool;
@@ -362,7 +362,7 @@ day_exchange = arrives_at_unit (record { addresses = lab; store = day_store; rep
 noon-run : (run cable_ends (transfer lab by_noon) day_exchange (start cable_ends (transfer lab by_noon))).system.tool
     ≡ record {
       state = record { request = Transfer; outcome = Done; name = noon; sendings = 1; expected = sub 1; held = 3 };
-      room = 0x76 ∷ 0x02 ∷ 0x_aA ∷ [];
+      room = 0x76 ∷ 0x02 ∷ 0xAA ∷ [];
     }
 unfolding calls
 noon-run = refl

@@ -25,14 +25,14 @@ abbrev pub day_asked : AnswerName
 day_asked = record { trep = 0x02; day = 86401 }
 
 abbrev pub day_request : List ℕ
-day_request = 0x80 ∷ 0x_eE ∷ 0x_f0 ∷ 0x06 ∷ 0x36 ∷ 0x02 ∷ 0x00 ∷ 0x01 ∷ 0x51 ∷ 0x81 ∷ 0x6_f ∷ []
+day_request = 0x80 ∷ 0xEE ∷ 0xF0 ∷ 0x06 ∷ 0x36 ∷ 0x02 ∷ 0x00 ∷ 0x01 ∷ 0x51 ∷ 0x81 ∷ 0x6F ∷ []
 
 pub record DayCases : Type 0 where
   -- the store holds 76 02 AA under the first second of that day: granted, then in session
   pub granted : (u : UnitState) (out_len : ℕ) → Called day_store u out_len → u.kind ≡ 0 → u.phase ≡ Granted
-      → unit_reply lab day_store out_len u day_request ≡ 0x80 ∷ 0x_f0 ∷ 0x_eE ∷ 0x03 ∷ 0x76 ∷ 0x02 ∷ 0x_aA ∷ 0x83 ∷ []
+      → unit_reply lab day_store out_len u day_request ≡ 0x80 ∷ 0xF0 ∷ 0xEE ∷ 0x03 ∷ 0x76 ∷ 0x02 ∷ 0xAA ∷ 0x83 ∷ []
   pub session : (u : UnitState) (out_len : ℕ) → Called day_store u out_len → u.kind ≡ 0 → u.phase ≡ Session
-      → unit_reply lab day_store out_len u day_request ≡ 0x80 ∷ 0x_f0 ∷ 0x_eE ∷ 0x03 ∷ 0x7_f ∷ 0x36 ∷ 0x22 ∷ 0x38 ∷ []
+      → unit_reply lab day_store out_len u day_request ≡ 0x80 ∷ 0xF0 ∷ 0xEE ∷ 0x03 ∷ 0x7F ∷ 0x36 ∷ 0x22 ∷ 0x38 ∷ []
   -- the tool sends the second as it was given
   pub sent : (t : ToolState) (out_len : ℕ) → begin_number t Transfer day_asked out_len ≡ 0
       → begin_sent lab t Transfer day_asked out_len ≡ day_request

@@ -17,13 +17,13 @@ pub record WideCases : Type 0 where
   pub longest : (answer_most ≡ 2 + data_most) × (held_most ≡ answer_most)
   -- 16,448,783 data bytes under 24: the last of 65,534 sub messages carries none
   pub last_frame : (d : List ℕ) → length d ≡ 16448783
-      → sub_frame lab 0x24 messages_most d ≡ 0x80 ∷ 0x_f0 ∷ 0x_eE ∷ 0x04 ∷ 0x76 ∷ 0x24 ∷ 0x_fF ∷ 0x_fE ∷ 0x_f9 ∷ []
+      → sub_frame lab 0x24 messages_most d ≡ 0x80 ∷ 0xF0 ∷ 0xEE ∷ 0x04 ∷ 0x76 ∷ 0x24 ∷ 0xFF ∷ 0xFE ∷ 0xF9 ∷ []
   -- "code FFFF means stop, behind 65,534 too": silence, and the unit is granted, whatever number was sent last
-  pub stop : stop_frame lab ≡ 0x80 ∷ 0x_eE ∷ 0x_f0 ∷ 0x04 ∷ 0x83 ∷ 0x76 ∷ 0x_fF ∷ 0x_fF ∷ 0x59 ∷ []
+  pub stop : stop_frame lab ≡ 0x80 ∷ 0xEE ∷ 0xF0 ∷ 0x04 ∷ 0x83 ∷ 0x76 ∷ 0xFF ∷ 0xFF ∷ 0x59 ∷ []
   pub stop_reply : (store : List ℕ) (u : UnitState) (out_len : ℕ) (name : AnswerName) (last : SubMessage)
       → Called store u out_len → u.phase ≡ Sending name last
-      → unit_reply lab store out_len u (0x80 ∷ 0x_eE ∷ 0x_f0 ∷ 0x04 ∷ 0x83 ∷ 0x76 ∷ 0x_fF ∷ 0x_fF ∷ 0x59 ∷ []) ≡ []
+      → unit_reply lab store out_len u (0x80 ∷ 0xEE ∷ 0xF0 ∷ 0x04 ∷ 0x83 ∷ 0x76 ∷ 0xFF ∷ 0xFF ∷ 0x59 ∷ []) ≡ []
   pub stop_state : (store : List ℕ) (u : UnitState) (out_len : ℕ) (name : AnswerName) (last : SubMessage)
       → Called store u out_len → u.phase ≡ Sending name last
-      → unit_state lab store out_len u (0x80 ∷ 0x_eE ∷ 0x_f0 ∷ 0x04 ∷ 0x83 ∷ 0x76 ∷ 0x_fF ∷ 0x_fF ∷ 0x59 ∷ [])
+      → unit_state lab store out_len u (0x80 ∷ 0xEE ∷ 0xF0 ∷ 0x04 ∷ 0x83 ∷ 0x76 ∷ 0xFF ∷ 0xFF ∷ 0x59 ∷ [])
       ≡ record { kind = u.kind; rate = u.rate; pending = 0; phase = Granted }

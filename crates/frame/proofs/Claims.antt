@@ -28,7 +28,7 @@ use Rattle.frame.proofs.FrontLaws.{front-whole, front-part}
 use Rattle.frame.proofs.Theorems.{write-then-check, data-reads-back, start-good, start-data, changed-refused, cut-refused}
 use Rattle.frame.proofs.Theorems.{others-refused, to-unit-refused, to-tool-refused}
 
-start-bytes : start_frame lab ≡ 0x81 ∷ 0x_eE ∷ 0x_f0 ∷ 0x81 ∷ 0x_e0 ∷ []
+start-bytes : start_frame lab ≡ 0x81 ∷ 0xEE ∷ 0xF0 ∷ 0x81 ∷ 0xE0 ∷ []
 unfolding closed
 start-bytes = refl
 

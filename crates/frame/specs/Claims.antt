@@ -20,7 +20,7 @@ pub record FrameClaims : Type 0 where
   pub data_back : (a : Addresses) (end : End) (d : List ℕ) → 0 < length d → length d ≤ 255
       → data_of a end (frame_of a end d) ≡ d
   -- "the five bytes 81 EE F0 81 E0, start communication, without LEN"
-  pub start : start_frame lab ≡ 0x81 ∷ 0x_eE ∷ 0x_f0 ∷ 0x81 ∷ 0x_e0 ∷ []
+  pub start : start_frame lab ≡ 0x81 ∷ 0xEE ∷ 0xF0 ∷ 0x81 ∷ 0xE0 ∷ []
   -- at any two addresses the start is good at the unit, and carries the SID alone
   pub start_good : (a : Addresses) → judged a ends.Unit (start_frame a) ≡ 0
   pub start_data : (a : Addresses) → data_of a ends.Unit (start_frame a) ≡ 0x81 ∷ []

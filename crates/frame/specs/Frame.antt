@@ -13,7 +13,7 @@ use Rattle.frame.specs.declared.Addresses.{Addresses}
 
 -- "Unit address EE, tool address F0"
 abbrev pub lab : Addresses
-lab = record { unit = 0x_eE; tool = 0x_f0 }
+lab = record { unit = 0xEE; tool = 0xF0 }
 
 -- the addresses in a frame that arrives at an end: "tool to unit (at the unit) or unit to tool (at the tool)"
 abbrev pub target : Addresses → End → ℕ

@@ -16,7 +16,7 @@ session_request = 0x10 ∷ 0x81 ∷ []
 
 -- "35, five 00, four FF"
 abbrev pub upload_request : List ℕ
-upload_request = 0x35 ∷ 0x00 ∷ 0x00 ∷ 0x00 ∷ 0x00 ∷ 0x00 ∷ 0x_fF ∷ 0x_fF ∷ 0x_fF ∷ 0x_fF ∷ []
+upload_request = 0x35 ∷ 0x00 ∷ 0x00 ∷ 0x00 ∷ 0x00 ∷ 0x00 ∷ 0xFF ∷ 0xFF ∷ 0xFF ∷ 0xFF ∷ []
 
 abbrev pub exit_request : List ℕ
 exit_request = 0x37 ∷ []
@@ -27,19 +27,19 @@ stop_request = 0x82 ∷ []
 -- the data of the fixed replies
 
 abbrev pub start_reply : List ℕ
-start_reply = 0x_c1 ∷ 0x_eA ∷ 0x8_f ∷ []
+start_reply = 0xC1 ∷ 0xEA ∷ 0x8F ∷ []
 
 abbrev pub session_reply : List ℕ
 session_reply = 0x50 ∷ 0x81 ∷ []
 
 abbrev pub rate_reply : List ℕ
-rate_reply = 0x_c7 ∷ 0x01 ∷ []
+rate_reply = 0xC7 ∷ 0x01 ∷ []
 
 abbrev pub upload_reply : List ℕ
-upload_reply = 0x75 ∷ 0x00 ∷ 0x_fF ∷ []
+upload_reply = 0x75 ∷ 0x00 ∷ 0xFF ∷ []
 
 abbrev pub exit_reply : List ℕ
 exit_reply = 0x77 ∷ []
 
 abbrev pub stop_reply : List ℕ
-stop_reply = 0x_c2 ∷ []
+stop_reply = 0xC2 ∷ []

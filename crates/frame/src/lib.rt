@@ -28,6 +28,6 @@ pub const WITHOUT_LEN: u8 = 0x81;
 
 // The lab's. Unit address EE, tool address F0.
 pub const LAB: Addresses = Addresses {
-    unit: 0x_eE,
-    tool: 0x_f0,
+    unit: 0xEE,
+    tool: 0xF0,
 };

@@ -19,7 +19,7 @@ pub const ACKNOWLEDGE: u8 = 0x83;
 pub const ANSWER: u8 = 0x76;
 
 // A refusal by wire code is 7F, SID, code.
-pub const NEGATIVE: u8 = 0x7_f;
+pub const NEGATIVE: u8 = 0x7F;
 
 pub const SERVICE_UNKNOWN: u8 = 0x11;
 
@@ -33,7 +33,7 @@ pub const OUT_OF_RANGE: u8 = 0x31;
 
 pub const RESPONSE_PENDING: u8 = 0x78;
 
-pub const DATA_NOT_AVAILABLE: u8 = 0x_fA;
+pub const DATA_NOT_AVAILABLE: u8 = 0xFA;
 
 // "a frame has 6 to 260 bytes"
 pub const FRAME_MOST: usize = 260;

@@ -77,7 +77,7 @@ name_asked d = cond (eqb (get_or d 0 0) 0x36) (request_name d) no_answer
 
 -- "granted, sending | unsplit answer, granted; or sub message 1, sending"; "data held (FA)"
 unfoldable pub answer_from : AnswerName → SubMessage → Place → Reaction
-answer_from name k place = unless (eqb place.number 0) (Negative 0x36 0x_fA) (AnswerSent name k place)
+answer_from name k place = unless (eqb place.number 0) (Negative 0x36 0xFA) (AnswerSent name k place)
 
 -- "The unit no longer answers 31 for a day" (document 02, Req 03); asked is where the answer lies
 unfoldable pub on_transfer : ℕ → Phase → Place → List ℕ → Reaction

@@ -147,23 +147,23 @@ joined-is-answer a trep d b =
 -- W7 to W10 and the bound, for every data of that length
 
 module _ (trep : ℕ) (d : List ℕ) where
-  pub split-252 : length d ≡ 252 → (count_of (length d) ≡ 1) × (length (sub_field trep 1 d) ≡ 0x_fE)
+  pub split-252 : length d ≡ 252 → (count_of (length d) ≡ 1) × (length (sub_field trep 1 d) ≡ 0xFE)
   split-252 e = (count-one (length d) (omega arith), omega (arith, length-one trep d 1 (omega arith)))
 
-  pub split-253 : length d ≡ 253 → (count_of (length d) ≡ 2) × (length (sub_field trep 1 d) ≡ 0x_fF) × (length (sub_field trep 2 d) ≡ 0x06)
+  pub split-253 : length d ≡ 253 → (count_of (length d) ≡ 2) × (length (sub_field trep 1 d) ≡ 0xFF) × (length (sub_field trep 2 d) ≡ 0x06)
   split-253 e =
       let q : length d / 251 + 1 ≡ 2 = omega arith in
       let full = length-full trep d (omega arith) in
       (count-split (length d) (omega arith) ∙ q, full 1 (omega arith) (omega arith), omega (arith, rw q at (length_last_lem trep d (omega arith))))
 
-  pub split-501 : length d ≡ 501 → (count_of (length d) ≡ 2) × (length (sub_field trep 1 d) ≡ 0x_fF) × (length (sub_field trep 2 d) ≡ 0x_fE)
+  pub split-501 : length d ≡ 501 → (count_of (length d) ≡ 2) × (length (sub_field trep 1 d) ≡ 0xFF) × (length (sub_field trep 2 d) ≡ 0xFE)
   split-501 e =
       let q : length d / 251 + 1 ≡ 2 = omega arith in
       let full = length-full trep d (omega arith) in
       (count-split (length d) (omega arith) ∙ q, full 1 (omega arith) (omega arith), omega (arith, rw q at (length_last_lem trep d (omega arith))))
 
   pub split-502 : length d ≡ 502
-      → (count_of (length d) ≡ 3) × (length (sub_field trep 1 d) ≡ 0x_fF) × (length (sub_field trep 2 d) ≡ 0x_fF) × (length (sub_field trep 3 d) ≡ 0x04)
+      → (count_of (length d) ≡ 3) × (length (sub_field trep 1 d) ≡ 0xFF) × (length (sub_field trep 2 d) ≡ 0xFF) × (length (sub_field trep 3 d) ≡ 0x04)
   split-502 e =
       let q : length d / 251 + 1 ≡ 3 = omega arith in
       let full = length-full trep d (omega arith) in (

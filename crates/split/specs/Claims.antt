@@ -25,13 +25,13 @@ pub record SplitClaims : Type 0 where
   pub count_split : (n : ℕ) → 253 ≤ n → count_of n ≡ n / 251 + 1
   -- "then 251 data bytes (LEN FF)": every sub message but the last
   pub length_full : (trep : ℕ) (d : List ℕ) (k : ℕ) → 253 ≤ length d → 1 ≤ k → k < count_of (length d)
-      → length (sub_field trep k d) ≡ 0x_fF
+      → length (sub_field trep k d) ≡ 0xFF
   -- "the last carries 0 to 250 (LEN 04 to FE)": what is left of the data
   pub length_last : (trep : ℕ) (d : List ℕ) → 253 ≤ length d
       → length (sub_field trep (count_of (length d)) d) ≡ 0x04 + length d % 251
   pub last_bounds : (trep : ℕ) (d : List ℕ) → 253 ≤ length d
       → (0x04 ≤ length (sub_field trep (count_of (length d)) d))
-      × (length (sub_field trep (count_of (length d)) d) ≤ 0x_fE)
+      × (length (sub_field trep (count_of (length d)) d) ≤ 0xFE)
   -- "a two-byte number from 1": the number in sub message k is k
   pub number_back : (trep : ℕ) (d : List ℕ) (k : ℕ) → 253 ≤ length d → k < 65536 → message_in (sub_field trep k d) ≡ k
   -- "Joining alone is met by an identity; it is stated over the splitting rule": the frames into which that rule splits

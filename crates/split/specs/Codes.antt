@@ -28,4 +28,4 @@ repeat_of last = code last.0
 
 -- "FFFF, silence, granted"
 abbrev pub stop_code : AckCode
-stop_code = code 0x_fFFF
+stop_code = code 0xFFFF

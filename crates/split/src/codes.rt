@@ -29,5 +29,5 @@ pub fn repeat(last: SubMessage) -> AckCode
 pub fn stop() -> AckCode
     ensures { result ≡ stop_code }
 {
-    AckCode(0x_fFFF)
+    AckCode(0xFFFF)
 }

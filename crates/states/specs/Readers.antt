@@ -10,7 +10,7 @@ use Rattle.states.specs.Packed.{phase_byte, is_unit, unpacked_unit, outcome_byte
 
 -- no number of a state: the largest of 64 bits
 abbrev pub no_state : ℕ
-no_state = 0x_fFFFFFFFFFFFFFFF
+no_state = 0xFFFFFFFFFFFFFFFF
 
 -- kind, rate and phase of a unit: 0 closed, 1 started, 2 session, 3 granted, 4 sending
 unfoldable pub unit_value : UnitReading → UnitState → ℕ

@@ -8,7 +8,7 @@ use progress::ToolState;
 use services::UnitState;
 
 // No number of a state.
-const NO_STATE: usize = 0x_fFFFFFFFFFFFFFFF;
+const NO_STATE: usize = 0xFFFFFFFFFFFFFFFF;
 
 fn unit_value(what: UnitReading, unit: UnitState) -> usize
     ensures { result ≡ unit_value what unit }

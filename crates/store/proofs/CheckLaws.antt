@@ -30,13 +30,13 @@ use Rattle.store.proofs.NumberLaws.{first-13, first-14, first-15, first-16, firs
 -- The mark; b and c are its two bytes
 
 module _ (s : List ℕ) (b : ℕ) (e : b ≡ get_or s 0 0) where
-  pub mark-first : (b ≡ 0x_fF → ⊥) → false ≡ is_wide s
+  pub mark-first : (b ≡ 0xFF → ⊥) → false ≡ is_wide s
   unfolding is_wide
-  mark-first h = rw (← e, ne_eqb b 0x_fF h)
+  mark-first h = rw (← e, ne_eqb b 0xFF h)
 
-  pub mark-second : (c : ℕ) → b ≡ 0x_fF → c ≡ get_or s 1 0 → eqb c 0x_fF ≡ is_wide s
+  pub mark-second : (c : ℕ) → b ≡ 0xFF → c ≡ get_or s 1 0 → eqb c 0xFF ≡ is_wide s
   unfolding is_wide
-  mark-second c h q = rw (← e, eq-eqb b 0x_fF h, ← q)
+  mark-second c h q = rw (← e, eq-eqb b 0xFF h, ← q)
 
 -- The fields; k is the width and m the mark's length that the code has
 

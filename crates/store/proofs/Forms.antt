@@ -32,23 +32,23 @@ use Rattle.store.proofs.Theorems.{written-unbroken}
 
 -- Which form
 
-pub marked-is : (s : List ℕ) → is_wide s ≡ true → (get_or s 0 0 ≡ 0x_fF) × (get_or s 1 0 ≡ 0x_fF)
+pub marked-is : (s : List ℕ) → is_wide s ≡ true → (get_or s 0 0 ≡ 0xFF) × (get_or s 1 0 ≡ 0xFF)
 unfolding is_wide
 marked-is s e =
-    (eqb-true (get_or s 0 0) 0x_fF (and_left (eqb (get_or s 0 0) 0x_fF) _ e), eqb-true (get_or s 1 0) 0x_fF (and_right (eqb (get_or s 0 0) 0x_fF) _ e))
+    (eqb-true (get_or s 0 0) 0xFF (and_left (eqb (get_or s 0 0) 0xFF) _ e), eqb-true (get_or s 1 0) 0xFF (and_right (eqb (get_or s 0 0) 0xFF) _ e))
 
-is-marked : (s : List ℕ) → (get_or s 0 0 ≡ 0x_fF) × (get_or s 1 0 ≡ 0x_fF) → is_wide s ≡ true
+is-marked : (s : List ℕ) → (get_or s 0 0 ≡ 0xFF) × (get_or s 1 0 ≡ 0xFF) → is_wide s ≡ true
 unfolding is_wide
-is-marked s m = rw (eq-eqb (get_or s 0 0) 0x_fF m.0, eq-eqb (get_or s 1 0) 0x_fF m.1)
+is-marked s m = rw (eq-eqb (get_or s 0 0) 0xFF m.0, eq-eqb (get_or s 1 0) 0xFF m.1)
 
-pub wide-here : (rest : List ℕ) → form_of (0x_fF ∷ 0x_fF ∷ rest) ≡ wide_form
-wide-here rest = wide_is (is_wide (0x_fF ∷ 0x_fF ∷ rest)) (is-marked (0x_fF ∷ 0x_fF ∷ rest) (refl, refl))
+pub wide-here : (rest : List ℕ) → form_of (0xFF ∷ 0xFF ∷ rest) ≡ wide_form
+wide-here rest = wide_is (is_wide (0xFF ∷ 0xFF ∷ rest)) (is-marked (0xFF ∷ 0xFF ∷ rest) (refl, refl))
 
 -- the mark of a wide buffer
-pub wide-front : (s : List ℕ) → is_wide s ≡ true → take 2 s ≡ 0x_fF ∷ 0x_fF ∷ []
+pub wide-front : (s : List ℕ) → is_wide s ≡ true → take 2 s ≡ 0xFF ∷ 0xFF ∷ []
 wide-front s e = let m = marked-is s e in go s m.0 m.1
   where
-    go : (t : List ℕ) → get_or t 0 0 ≡ 0x_fF → get_or t 1 0 ≡ 0x_fF → take 2 t ≡ 0x_fF ∷ 0x_fF ∷ []
+    go : (t : List ℕ) → get_or t 0 0 ≡ 0xFF → get_or t 1 0 ≡ 0xFF → take 2 t ≡ 0xFF ∷ 0xFF ∷ []
     go [] p q = absurd (omega arith)
     go (x ∷ []) p q = absurd (omega arith)
     go (x ∷ y ∷ t) p q = rw (p, q)
@@ -172,15 +172,15 @@ long-stream rest l =
 long-entry : (rest : List ℕ) → length rest ≡ 16449036
     → store_fault wide_form
     (wide_header 1
-    (0x00 ∷ 0x_fA ∷ 0x_fE ∷ 0x0_c
-    ∷ 0x00 ∷ 0x00 ∷ 0x00 ∷ 0x00 ∷ 0x00 ∷ 0x00 ∷ 0x00 ∷ 0x00 ∷ 0x00 ∷ 0x_fA ∷ 0x_fE ∷ 0x0_c ∷ rest))
+    (0x00 ∷ 0xFA ∷ 0xFE ∷ 0x0C
+    ∷ 0x00 ∷ 0x00 ∷ 0x00 ∷ 0x00 ∷ 0x00 ∷ 0x00 ∷ 0x00 ∷ 0x00 ∷ 0x00 ∷ 0xFA ∷ 0xFE ∷ 0x0C ∷ rest))
     ≡ fault_at 15 0
 unfolding header_size entry_size entries_size filled_to
 long-entry rest l =
     let s : List ℕ =
     wide_header 1
-    (0x00 ∷ 0x_fA ∷ 0x_fE ∷ 0x0_c
-    ∷ 0x00 ∷ 0x00 ∷ 0x00 ∷ 0x00 ∷ 0x00 ∷ 0x00 ∷ 0x00 ∷ 0x00 ∷ 0x00 ∷ 0x_fA ∷ 0x_fE ∷ 0x0_c ∷ rest) in
+    (0x00 ∷ 0xFA ∷ 0xFE ∷ 0x0C
+    ∷ 0x00 ∷ 0x00 ∷ 0x00 ∷ 0x00 ∷ 0x00 ∷ 0x00 ∷ 0x00 ∷ 0x00 ∷ 0x00 ∷ 0xFA ∷ 0xFE ∷ 0x0C ∷ rest) in
     let n : 1 ≡ answers wide_form s = read-four 2 s 1 4 (omega arith) (omega arith) refl refl in
     let t : 16449036 ≡ stream_length wide_form s = read-four 6 s 16449036 4 (omega arith) (omega arith) refl refl in
     let m : 16449036 ≡ entry_length wide_form 0 s = read-four 18 s 16449036 4 (omega arith) (omega arith) refl refl in

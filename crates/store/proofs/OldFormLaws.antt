@@ -48,10 +48,10 @@ w12-is = refl
 
 -- The faults of some stores
 
-all-bits : (rest : List ℕ) → length rest ≡ 589815 → store_fault old_form (0x_fF ∷ 0x_fF ∷ 0x_fF ∷ 0x_fF ∷ rest) ≡ fault_at 14 65535
+all-bits : (rest : List ℕ) → length rest ≡ 589815 → store_fault old_form (0xFF ∷ 0xFF ∷ 0xFF ∷ 0xFF ∷ rest) ≡ fault_at 14 65535
 unfolding header_size entry_size entries_size
 all-bits rest l =
-    let s : List ℕ = 0x_fF ∷ 0x_fF ∷ 0x_fF ∷ 0x_fF ∷ rest in
+    let s : List ℕ = 0xFF ∷ 0xFF ∷ 0xFF ∷ 0xFF ∷ rest in
     let n : 65535 ≡ answers old_form s = read-two 0 s 65535 2 (omega arith) (omega arith) refl refl in
     let t : 65535 ≡ stream_length old_form s = read-two 2 s 65535 2 (omega arith) (omega arith) refl refl in
     ((fault-claims old_form).fourteen 65535 s).1

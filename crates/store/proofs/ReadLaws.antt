@@ -25,7 +25,7 @@ use Rattle.store.proofs.StoreLaws.{unlisted-missing}
 
 module _ (f : Form) (s : List ℕ) (name : AnswerName) (z : store_number f s ≡ 0) where
   -- a held answer has a listed TREP, and FF is none
-  pub find_none : (place : Place) → name.trep ≡ 0x_fF → place ≡ refused_place 6 → place ≡ lookup_place f name s
+  pub find_none : (place : Place) → name.trep ≡ 0xFF → place ≡ refused_place 6 → place ≡ lookup_place f name s
   unfolding lookup_place lookup_number
   find_none place e q =
       let u : listed (rounded name).trep ≡ false = ap listed (rounded-trep name) ∙ sym (absent-unlisted name.trep e) in

@@ -141,9 +141,9 @@ pub record FaultExamples : Type 0 where
   pub cut : store_fault old_form (0x00 ∷ 0x01 ∷ 0x00 ∷ 0x04 ∷ entry_of 0 0 4 ++ (0x76 ∷ 0x00 ∷ 0x02 ∷ []))
       ≡ fault_at store_short 1
   -- 13 comes before 14: the header alone, and with all that it speaks of
-  pub all_bits : store_fault old_form (0x_fF ∷ 0x_fF ∷ 0x_fF ∷ 0x_fF ∷ []) ≡ fault_at store_short 65535
+  pub all_bits : store_fault old_form (0xFF ∷ 0xFF ∷ 0xFF ∷ 0xFF ∷ []) ≡ fault_at store_short 65535
   pub all_bits_whole : (rest : List ℕ) → length rest ≡ 589815
-      → store_fault old_form (0x_fF ∷ 0x_fF ∷ 0x_fF ∷ 0x_fF ∷ rest) ≡ fault_at store_bounds 65535
+      → store_fault old_form (0xFF ∷ 0xFF ∷ 0xFF ∷ 0xFF ∷ rest) ≡ fault_at store_bounds 65535
   pub too_many : store_fault old_form (0x00 ∷ 0x41 ∷ 0x00 ∷ 0x00 ∷ replicate 520 0x00) ≡ fault_at store_bounds 65
   -- no answers and a byte of stream; W12's with a byte of stream more
   pub stream_alone : store_fault old_form (0x00 ∷ 0x00 ∷ 0x00 ∷ 0x01 ∷ 0x76 ∷ []) ≡ fault_at store_entry 0
@@ -165,7 +165,7 @@ pub record FaultExamples : Type 0 where
       store_fault old_form
       (0x00 ∷ 0x01 ∷ 0x00 ∷ 0x03
       ∷ 0x00 ∷ 0x01 ∷ 0x51 ∷ 0x81 ∷ 0x00 ∷ 0x00 ∷ 0x00 ∷ 0x03
-      ∷ 0x76 ∷ 0x02 ∷ 0x_aA ∷ [])
+      ∷ 0x76 ∷ 0x02 ∷ 0xAA ∷ [])
       ≡ fault_at store_answer 0
   -- answer 2 repeats answer 1, before answer 3 repeats answer 0
   pub first_repeat :

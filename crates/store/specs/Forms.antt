@@ -37,8 +37,8 @@ store_fault_before s =
 
 pub record FormClaims : Type 0 where
   -- "behind the two bytes FF FF": such buffers are wide, all others old
-  pub wide : (rest : List ℕ) → form_of (0x_fF ∷ 0x_fF ∷ rest) ≡ wide_form
-  pub marked : (s : List ℕ) → (is_wide s ≡ true) ↔ ((get_or s 0 0 ≡ 0x_fF) × (get_or s 1 0 ≡ 0x_fF))
+  pub wide : (rest : List ℕ) → form_of (0xFF ∷ 0xFF ∷ rest) ≡ wide_form
+  pub marked : (s : List ℕ) → (is_wide s ≡ true) ↔ ((get_or s 0 0 ≡ 0xFF) × (get_or s 1 0 ≡ 0xFF))
   pub others : (s : List ℕ) → is_wide s ≡ false → form_of s ≡ old_form
   -- so a buffer of bytes is of its form, whose bounds fit its fields: what is claimed of such forms holds of every call
   pub of_form : (s : List ℕ) → Bytes s → OfForm (form_of s) s
@@ -65,7 +65,7 @@ own_fault s = store_fault (form_of s) s
 
 -- the header of a wide store, by the low bytes of its count and its stream length
 abbrev pub wide_header : ℕ → List ℕ → List ℕ
-wide_header count stream = 0x_fF ∷ 0x_fF ∷ 0x00 ∷ 0x00 ∷ 0x00 ∷ count ∷ stream
+wide_header count stream = 0xFF ∷ 0xFF ∷ 0x00 ∷ 0x00 ∷ 0x00 ∷ count ∷ stream
 
 pub record FormExamples : Type 0 where
   -- the empty wide store: ten bytes, with any bytes behind them
@@ -74,7 +74,7 @@ pub record FormExamples : Type 0 where
       → store_number wide_form (wide_header 0 (0x00 ∷ 0x00 ∷ 0x00 ∷ 0x00 ∷ rest)) ≡ done
   -- FF FF and seven 00, and four FF: too short for a wide header
   pub short_header : own_fault (wide_header 0 (0x00 ∷ 0x00 ∷ 0x00 ∷ [])) ≡ fault_at store_short 0
-  pub four_bytes : own_fault (0x_fF ∷ 0x_fF ∷ 0x_fF ∷ 0x_fF ∷ []) ≡ fault_at store_short 0
+  pub four_bytes : own_fault (0xFF ∷ 0xFF ∷ 0xFF ∷ 0xFF ∷ []) ≡ fault_at store_short 0
   -- a header that counts an answer, and no entry
   pub no_entry : own_fault (wide_header 1 (0x00 ∷ 0x00 ∷ 0x00 ∷ 0x00 ∷ [])) ≡ fault_at store_short 1
   -- "Stream bound: 33,554,432": a byte more
@@ -84,6 +84,6 @@ pub record FormExamples : Type 0 where
   pub long_entry : (rest : List ℕ) → length rest ≡ 16449036
       → store_fault wide_form
       (wide_header 1
-      (0x00 ∷ 0x_fA ∷ 0x_fE ∷ 0x0_c
-      ∷ 0x00 ∷ 0x00 ∷ 0x00 ∷ 0x00 ∷ 0x00 ∷ 0x00 ∷ 0x00 ∷ 0x00 ∷ 0x00 ∷ 0x_fA ∷ 0x_fE ∷ 0x0_c ∷ rest))
+      (0x00 ∷ 0xFA ∷ 0xFE ∷ 0x0C
+      ∷ 0x00 ∷ 0x00 ∷ 0x00 ∷ 0x00 ∷ 0x00 ∷ 0x00 ∷ 0x00 ∷ 0x00 ∷ 0x00 ∷ 0xFA ∷ 0xFE ∷ 0x0C ∷ rest))
       ≡ fault_at store_entry 0

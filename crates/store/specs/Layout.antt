@@ -31,14 +31,14 @@ old_form = record { mark = []; width = 2; answers_most = 64; stream_most = 60000
 
 -- "Wide stores have the same fields, each of four bytes, behind the two bytes FF FF"; "Stream bound: 33,554,432"
 abbrev pub wide_form : Form
-wide_form = record { mark = 0x_fF ∷ 0x_fF ∷ []; width = 4; answers_most = 64; stream_most = 33554432 }
+wide_form = record { mark = 0xFF ∷ 0xFF ∷ []; width = 4; answers_most = 64; stream_most = 33554432 }
 
 unfoldable pub form_by : Bool → Form
 form_by is_wide = cond is_wide wide_form old_form
 
 -- ".. FF FF, which no old count can be": the form of a buffer; one under two bytes is old
 unfoldable pub is_wide : List ℕ → Bool
-is_wide s = eqb (get_or s 0 0) 0x_fF && eqb (get_or s 1 0) 0x_fF
+is_wide s = eqb (get_or s 0 0) 0xFF && eqb (get_or s 1 0) 0xFF
 
 abbrev pub form_of : List ℕ → Form
 form_of s = form_by (is_wide s)

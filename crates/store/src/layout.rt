@@ -10,7 +10,7 @@ ghost use Rattle.store.specs.Layout.{stream_start, entry_day, entry_offset, entr
 use catalog::AnswerName;
 
 // The two bytes in front of a wide store's count.
-const MARK: u8 = 0x_fF;
+const MARK: u8 = 0xFF;
 
 // The width of a day.
 pub const DAY: usize = 4;

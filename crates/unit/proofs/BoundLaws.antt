@@ -81,9 +81,9 @@ module _ (u : UnitState) (fits : Fits u.phase) where
     unfolding answer_from
     first place = go (eqb place.number 0)
       where
-        go : (t : Bool) → After (cond t (AnswerSent (request_name (data_of a ends.Unit b)) (sub 1) place) (Negative 0x36 0x_fA))
+        go : (t : Bool) → After (cond t (AnswerSent (request_name (data_of a ends.Unit b)) (sub 1) place) (Negative 0x36 0xFA))
         go true = sends (request_name (data_of a ends.Unit b)) (sub 1) place (asked-day (data_of a ends.Unit b) heard-bytes) (omega arith)
-        go false = plain (Negative 0x36 0x_fA) refl
+        go false = plain (Negative 0x36 0xFA) refl
 
     reaction-fits : After (reaction_to a s u b)
     unfolding reaction_to

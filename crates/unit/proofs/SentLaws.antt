@@ -88,7 +88,7 @@ module _ (s : List ℕ) where
   first-sent name asked = go (eqb (lookup_place (form_of s) asked s).number 0) refl
     where
       go : (t : Bool) → eqb (lookup_place (form_of s) asked s).number 0 ≡ t
-          → piece_sent s (cond t (AnswerSent name (sub 1) (lookup_place (form_of s) asked s)) (Negative 0x36 0x_fA)) ≡ 0
+          → piece_sent s (cond t (AnswerSent name (sub 1) (lookup_place (form_of s) asked s)) (Negative 0x36 0xFA)) ≡ 0
       go true e =
           piece-in (lookup_place (form_of s) asked s) 1 (found_in s asked (eqb-true _ _ e)) (omega arith) (count-some _)
       go false e = refl

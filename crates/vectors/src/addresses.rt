@@ -6,8 +6,8 @@ use progress::Request;
 use split::AckCode;
 
 const REMOTE: Addresses = Addresses {
-    unit: 0x_eE,
-    tool: 0x_fB,
+    unit: 0xEE,
+    tool: 0xFB,
 };
 
 const ZERO_ONE: Addresses = Addresses {

@@ -6,7 +6,7 @@ use progress::Request;
 use services::{Phase, UnitState};
 
 const SECONDS: [u32; 10] = [
-    0, 86399, 86400, 86401, 129600, 172799, 172800, 0x_fFFFA4_fF, 0x_fFFFA500, 0x_fFFFFFFF,
+    0, 86399, 86400, 86401, 129600, 172799, 172800, 0xFFFFA4FF, 0xFFFFA500, 0xFFFFFFFF,
 ];
 
 // 36 02 and the second 86,401, to the unit.
