@@ -5,6 +5,7 @@ use frame::LAB;
 use octets::Place;
 use progress::{Outcome, Request, ToolState};
 use services::UnitState;
+use std::io;
 
 // Both states, the length of the frame that is out, and how often the unit was called.
 #[derive(Clone, Copy)]
@@ -35,67 +36,75 @@ pub(crate) fn is_done(outcome: Outcome) -> bool {
 }
 
 // The frame at the front of `out` is heard by the unit and its reply by the tool, whose next frame takes its place.
-fn exchange(s: Session, store: &[u8], room: &mut [u8], out: &mut [u8]) -> Session {
+fn exchange(
+    rt: &impl Print,
+    s: Session,
+    store: &[u8],
+    room: &mut [u8],
+    out: &mut [u8],
+) -> io::Result<Session> {
     let mut reply = [0u8; 260];
     let unit = s.unit;
     let tool = s.tool;
-    let heard = unit::call::step(
-        LAB,
-        unit,
-        store,
-        octets::buffer::part(out, front(s.len)),
-        &mut reply,
-    );
+    let sent = octets::buffer::part(out, front(s.len));
+    let heard = unit::call::step(LAB, unit, store, sent, &mut reply);
     let next = heard.state;
-    print::number(b", out ", s.len);
-    print::number(b", back ", heard.len);
+    print::number(rt, b", out ", s.len)?;
+    print::number(rt, b", back ", heard.len)?;
     let calls = s.calls % 1000 + 1;
     if heard.len == 260 && calls % 2 == 0 {
-        print::text(b" lost");
+        print::text(rt, b" lost")?;
         let waited = tool::call::wait_ended(LAB, tool, room, out);
         let left = waited.state;
-        return Session {
+        return Ok(Session {
             unit: next,
             tool: left,
             len: waited.len,
             calls,
-        };
+        });
     }
     let string = octets::buffer::part(&reply, front(heard.len));
     let stepped = tool::call::arrived(LAB, tool, string, room, out);
     let left = stepped.state;
-    Session {
+    Ok(Session {
         unit: next,
         tool: left,
         len: stepped.len,
         calls,
-    }
+    })
 }
 
 // The exchanges of one request, at most twenty, until it is done.
-fn exchanges(s: Session, store: &[u8], room: &mut [u8], out: &mut [u8]) -> Session {
+fn exchanges(
+    rt: &impl Print,
+    s: Session,
+    store: &[u8],
+    room: &mut [u8],
+    out: &mut [u8],
+) -> io::Result<Session> {
     let mut now = s;
     let mut i: usize = 0;
     while i < 20 {
         let tool = now.tool;
         let outcome = tool.outcome;
         if is_done(outcome) {
-            return now;
+            return Ok(now);
         }
-        now = exchange(now, store, room, out);
+        now = exchange(rt, now, store, room, out)?;
         i += 1;
     }
-    now
+    Ok(now)
 }
 
 // One request, begun and carried to its end.
 pub(crate) fn run(
+    rt: &impl Print,
     s: Session,
     request: Request,
     name: AnswerName,
     store: &[u8],
     room: &mut [u8],
-) -> Session {
+) -> io::Result<Session> {
     let mut out = [0u8; 260];
     let unit = s.unit;
     let tool = s.tool;
@@ -107,5 +116,5 @@ pub(crate) fn run(
         len: begun.len,
         calls: s.calls,
     };
-    exchanges(session, store, room, &mut out)
+    exchanges(rt, session, store, room, &mut out)
 }

@@ -8,6 +8,7 @@ mod sample;
 use catalog::AnswerName;
 use ends::Session;
 use progress::Request;
+use std::io;
 
 // The requests of a download, in order; the fourth to the sixth are transfers, the last of them activities by noon of
 // their day.
@@ -34,33 +35,45 @@ fn name_at(k: usize) -> AnswerName {
 }
 
 // Whether the request is done and what the tool holds is the answer of the store; a fixed request has none.
-fn compared(session: Session, k: usize, store: &[u8], room: &[u8]) {
+fn compared(
+    rt: &impl Print,
+    session: Session,
+    k: usize,
+    store: &[u8],
+    room: &[u8],
+) -> io::Result<()> {
     let tool = session.tool;
     let outcome = tool.outcome;
     let held = tool.held as usize;
     let answer = store::read::lookup(store, name_at(k));
     if ends::is_done(outcome) {
-        print::number(b": done, held ", held);
+        print::number(rt, b": done, held ", held)?;
     }
     if 0 < held && octets::buffer::same(octets::buffer::part(room, ends::front(held)), answer) {
-        print::text(b", the answer of the store");
+        print::text(rt, b", the answer of the store")?;
     }
-    print::text(b"\n");
+    print::text(rt, b"\n")
 }
 
 // Request k of a download.
-fn step(session: Session, k: usize, store: &[u8], room: &mut [u8]) -> Session {
-    print::number(b"request ", k);
+fn step(
+    rt: &impl Print,
+    session: Session,
+    k: usize,
+    store: &[u8],
+    room: &mut [u8],
+) -> io::Result<Session> {
+    print::number(rt, b"request ", k)?;
     let day = name_at(k).day;
     if day != 0 {
-        print::number(b" by second ", day as usize);
+        print::number(rt, b" by second ", day as usize)?;
     }
-    let after = ends::run(session, request_at(k), name_at(k), store, room);
-    compared(after, k, store, room);
-    after
+    let after = ends::run(rt, session, request_at(k), name_at(k), store, room)?;
+    compared(rt, after, k, store, room)?;
+    Ok(after)
 }
 
-fn steps(store: &[u8], room: &mut [u8]) {
+fn steps(rt: &impl Print, store: &[u8], room: &mut [u8]) -> io::Result<()> {
     let unit = services::state::fresh(2);
     let tool = progress::state::fresh();
     let mut session = Session {
@@ -71,18 +84,19 @@ fn steps(store: &[u8], room: &mut [u8]) {
     };
     let mut k: usize = 0;
     while k < 8 {
-        session = step(session, k, store, room);
+        session = step(rt, session, k, store, room)?;
         k += 1;
     }
+    Ok(())
 }
 
-fn download(store: &mut [u8], room: &mut [u8]) {
+fn download(rt: &impl Print, store: &mut [u8], room: &mut [u8]) -> io::Result<()> {
     sample::fill(store);
-    steps(store, room);
+    steps(rt, store, room)
 }
 
-fn main() {
+fn main(rt: HostRuntime) -> io::Result<()> {
     let mut store = [0u8; 4096];
     let mut room = [0u8; 4096];
-    download(&mut store, &mut room);
+    download(&rt, &mut store, &mut room)
 }

@@ -1,12 +1,12 @@
 // Text and numbers on standard output.
-use libc::STDOUT_FILENO;
+use std::io;
 
-pub(crate) fn text(s: &[u8]) {
-    io::write_all(STDOUT_FILENO, s);
+pub(crate) fn text(rt: &impl Print, s: &[u8]) -> io::Result<()> {
+    rt.write_all(s)
 }
 
 // A number, behind the text that says what it is.
-pub(crate) fn number(what: &[u8], n: usize) {
-    text(what);
-    io::print_decimal(STDOUT_FILENO, n as u64);
+pub(crate) fn number(rt: &impl Print, what: &[u8], n: usize) -> io::Result<()> {
+    text(rt, what)?;
+    rt.print(n)
 }

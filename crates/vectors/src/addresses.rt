@@ -4,6 +4,7 @@ use catalog::AnswerName;
 use frame::{Addresses, End, LAB};
 use progress::Request;
 use split::AckCode;
+use std::io;
 
 const REMOTE: Addresses = Addresses {
     unit: 0xEE,
@@ -23,55 +24,57 @@ const EQUAL: Addresses = Addresses {
 // An empty store: no answers and no stream bytes.
 const EMPTY: [u8; 4] = *b"\x00\x00\x00\x00";
 
-fn start(what: &[u8], addresses: Addresses) {
+fn start(rt: &impl Print, what: &[u8], addresses: Addresses) -> io::Result<()> {
     let mut out = [0u8; 5];
     let written = frame::write::write_start(addresses, &mut out);
-    print::text(what);
-    print::bytes(octets::buffer::part(&out, crate::front(written.len)));
-    print::text(b"\n");
+    print::text(rt, what)?;
+    print::bytes(rt, octets::buffer::part(&out, crate::front(written.len)))?;
+    print::text(rt, b"\n")
 }
 
 // The start at the lab's addresses is the fixed string.
-fn fixed() {
+fn fixed(rt: &impl Print) -> io::Result<()> {
     let mut out = [0u8; 5];
     frame::write::write_start(LAB, &mut out);
-    print::text(b"start at EE F0:");
-    print::bytes(&out);
-    print::same(&out, &frame::messages::lab_start());
+    print::text(rt, b"start at EE F0:")?;
+    print::bytes(rt, &out)?;
+    print::same(rt, &out, &frame::messages::lab_start())
 }
 
 // A frame at a closed unit of EE and FB.
-fn heard(what: &[u8], frame: &[u8]) {
+fn heard(rt: &impl Print, what: &[u8], frame: &[u8]) -> io::Result<()> {
     let mut reply = [0u8; 260];
     let step = unit::call::step(REMOTE, services::state::fresh(0), &EMPTY, frame, &mut reply);
     let state = step.state;
-    print::number(what, octets::byte::usize_of(step.number));
-    print::text(b", reply");
-    print::bytes(octets::buffer::part(&reply, crate::front(step.len)));
-    print::text(b", state");
-    print::bytes(&states::pack_unit::pack(state));
-    print::text(b"\n");
+    print::number(rt, what, octets::byte::usize_of(step.number))?;
+    print::text(rt, b", reply")?;
+    print::bytes(rt, octets::buffer::part(&reply, crate::front(step.len)))?;
+    print::text(rt, b", state")?;
+    print::bytes(rt, &states::pack_unit::pack(state))?;
+    print::text(rt, b"\n")
 }
 
-fn code() {
+fn code(rt: &impl Print) -> io::Result<()> {
     let mut out = [0u8; 260];
     let written = requests::sent::write_acknowledgement(REMOTE, AckCode(2), &mut out);
     let frame = octets::buffer::part(&out, crate::front(written.len));
-    print::text(b"code 2 from EE FB:");
-    print::bytes(frame);
+    print::text(rt, b"code 2 from EE FB:")?;
+    print::bytes(rt, frame)?;
     print::number(
+        rt,
         b": at EE FB ",
         octets::byte::usize_of(frame::call::check(REMOTE, frame, End::Unit)),
-    );
+    )?;
     print::number(
+        rt,
         b", at EE F0 ",
         octets::byte::usize_of(frame::call::check(LAB, frame, End::Unit)),
-    );
-    print::text(b"\n");
+    )?;
+    print::text(rt, b"\n")
 }
 
 // At two equal addresses these calls are 2: a broken store, a short reply buffer, no data, a name not in the table.
-fn equal() {
+fn equal(rt: &impl Print) -> io::Result<()> {
     let mut short = [0u8; 3];
     let name = AnswerName { trep: 0x99, day: 0 };
     let step = unit::call::step(EQUAL, services::state::fresh(9), b"", b"", &mut short);
@@ -83,24 +86,34 @@ fn equal() {
         name,
         &mut short,
     );
-    print::number(b"at 55 55: unit step ", octets::byte::usize_of(step.number));
-    print::number(b", frame write ", octets::byte::usize_of(written.number));
-    print::number(b", begin ", octets::byte::usize_of(begun.number));
-    print::text(b"\n");
+    print::number(
+        rt,
+        b"at 55 55: unit step ",
+        octets::byte::usize_of(step.number),
+    )?;
+    print::number(
+        rt,
+        b", frame write ",
+        octets::byte::usize_of(written.number),
+    )?;
+    print::number(rt, b", begin ", octets::byte::usize_of(begun.number))?;
+    print::text(rt, b"\n")
 }
 
-pub(crate) fn addresses() {
-    fixed();
-    start(b"start at EE FB:", REMOTE);
-    start(b"start at 00 01:", ZERO_ONE);
+pub(crate) fn addresses(rt: &impl Print) -> io::Result<()> {
+    fixed(rt)?;
+    start(rt, b"start at EE FB:", REMOTE)?;
+    start(rt, b"start at 00 01:", ZERO_ONE)?;
     heard(
+        rt,
         b"unit at EE FB, its start: number ",
         b"\x81\xee\xfb\x81\xeb",
-    );
+    )?;
     heard(
+        rt,
         b"unit at EE FB, the lab's start: number ",
         b"\x81\xee\xf0\x81\xe0",
-    );
-    code();
-    equal();
+    )?;
+    code(rt)?;
+    equal(rt)
 }

@@ -4,6 +4,7 @@ use catalog::AnswerName;
 use frame::LAB;
 use progress::Request;
 use services::{Phase, UnitState};
+use std::io;
 
 const SECONDS: [u32; 10] = [
     0, 86399, 86400, 86401, 129600, 172799, 172800, 0xFFFFA4FF, 0xFFFFA500, 0xFFFFFFFF,
@@ -16,46 +17,48 @@ const REQUEST: [u8; 11] = *b"\x80\xee\xf0\x06\x36\x02\x00\x01\x51\x81\x6f";
 const BROKEN: [u8; 15] = *b"\x00\x01\x00\x03\x00\x01\x51\x81\x00\x00\x00\x03\x76\x02\xaa";
 
 // The day of a second, and the second under which a store keeps it.
-fn second(n: u32) {
-    print::number(b"second ", n as usize);
+fn second(rt: &impl Print, n: u32) -> io::Result<()> {
+    print::number(rt, b"second ", n as usize)?;
     let first = catalog::first_second(n);
-    print::number(b": day ", (first / 86400) as usize);
-    print::number(b", kept under ", first as usize);
-    print::text(b"\n");
+    print::number(rt, b": day ", (first / 86400) as usize)?;
+    print::number(rt, b", kept under ", first as usize)?;
+    print::text(rt, b"\n")
 }
 
-fn seconds() {
+fn seconds(rt: &impl Print) -> io::Result<()> {
     let mut i: usize = 0;
     while i < 10 {
-        second(SECONDS[i]);
+        second(rt, SECONDS[i])?;
         i += 1;
     }
+    Ok(())
 }
 
 // The bytes, where there are some and not many.
-fn shown(bytes: &[u8]) {
+fn shown(rt: &impl Print, bytes: &[u8]) -> io::Result<()> {
     if 0 < bytes.len() && bytes.len() < 260 {
-        print::text(b":");
-        print::bytes(bytes);
+        print::text(rt, b":")?;
+        print::bytes(rt, bytes)?;
     }
+    Ok(())
 }
 
-fn appended(store: &mut [u8], answer: &[u8], day: u32) {
+fn appended(rt: &impl Print, store: &mut [u8], answer: &[u8], day: u32) -> io::Result<()> {
     let written = append::append(store, answer, day);
-    print::number(b"append by ", day as usize);
-    print::number(b": number ", octets::byte::usize_of(written.number));
-    print::number(b", length ", written.len);
-    shown(octets::buffer::part(store, crate::front(written.len)));
-    print::text(b"\n");
+    print::number(rt, b"append by ", day as usize)?;
+    print::number(rt, b": number ", octets::byte::usize_of(written.number))?;
+    print::number(rt, b", length ", written.len)?;
+    shown(rt, octets::buffer::part(store, crate::front(written.len)))?;
+    print::text(rt, b"\n")
 }
 
-fn found(store: &[u8], day: u32) {
+fn found(rt: &impl Print, store: &[u8], day: u32) -> io::Result<()> {
     let place = store::read::locate(store, AnswerName { trep: 0x02, day });
-    print::number(b"lookup by ", day as usize);
-    print::number(b": number ", octets::byte::usize_of(place.number));
-    print::number(b", start ", place.start);
-    print::number(b", length ", place.len);
-    print::text(b"\n");
+    print::number(rt, b"lookup by ", day as usize)?;
+    print::number(rt, b": number ", octets::byte::usize_of(place.number))?;
+    print::number(rt, b", start ", place.start)?;
+    print::number(rt, b", length ", place.len)?;
+    print::text(rt, b"\n")
 }
 
 fn in_phase(phase: Phase) -> UnitState {
@@ -68,19 +71,19 @@ fn in_phase(phase: Phase) -> UnitState {
 }
 
 // The reply, all its bytes where they are few, and the state that the host keeps.
-fn asked(what: &[u8], store: &[u8], phase: Phase) {
+fn asked(rt: &impl Print, what: &[u8], store: &[u8], phase: Phase) -> io::Result<()> {
     let mut reply = [0u8; 260];
     let heard = unit::call::step(LAB, in_phase(phase), store, &REQUEST, &mut reply);
     let state = heard.state;
-    print::number(what, heard.len);
-    print::text(b" bytes");
-    shown(octets::buffer::part(&reply, crate::front(heard.len)));
-    print::text(b", state");
-    print::bytes(&states::pack_unit::pack(state));
-    print::text(b"\n");
+    print::number(rt, what, heard.len)?;
+    print::text(rt, b" bytes")?;
+    shown(rt, octets::buffer::part(&reply, crate::front(heard.len)))?;
+    print::text(rt, b", state")?;
+    print::bytes(rt, &states::pack_unit::pack(state))?;
+    print::text(rt, b"\n")
 }
 
-fn begun() {
+fn begun(rt: &impl Print) -> io::Result<()> {
     let mut out = [0u8; 260];
     let name = AnswerName {
         trep: 0x02,
@@ -94,43 +97,49 @@ fn begun() {
         &mut out,
     );
     let state = step.state;
-    print::text(b"tool begins by 86401:");
-    print::bytes(octets::buffer::part(&out, crate::front(step.len)));
-    print::text(b", state");
-    print::bytes(&states::pack_tool::pack(state));
-    print::text(b"\n");
+    print::text(rt, b"tool begins by 86401:")?;
+    print::bytes(rt, octets::buffer::part(&out, crate::front(step.len)))?;
+    print::text(rt, b", state")?;
+    print::bytes(rt, &states::pack_tool::pack(state))?;
+    print::text(rt, b"\n")
 }
 
-fn short(store: &mut [u8]) {
-    appended(store, b"\x76\x02\xaa", 86401);
-    found(store, 172799);
-    found(store, 86399);
-    appended(store, b"\x76\x02", 86400);
-    asked(b"unit granted sends ", store, Phase::Granted);
-    asked(b"unit in session sends ", store, Phase::Session);
+fn short(rt: &impl Print, store: &mut [u8]) -> io::Result<()> {
+    appended(rt, store, b"\x76\x02\xaa", 86401)?;
+    found(rt, store, 172799)?;
+    found(rt, store, 86399)?;
+    appended(rt, store, b"\x76\x02", 86400)?;
+    asked(rt, b"unit granted sends ", store, Phase::Granted)?;
+    asked(rt, b"unit in session sends ", store, Phase::Session)
 }
 
 // An answer of 253 data bytes, which is split.
-fn split(store: &mut [u8]) {
+fn split(rt: &impl Print, store: &mut [u8]) -> io::Result<()> {
     let mut answer = [0u8; 255];
     answer[0] = 0x76;
     answer[1] = 0x02;
     append::append(store, &answer, 86401);
-    asked(b"unit with 253 data bytes sends ", store, Phase::Granted);
+    asked(
+        rt,
+        b"unit with 253 data bytes sends ",
+        store,
+        Phase::Granted,
+    )
 }
 
-pub(crate) fn days() {
+pub(crate) fn days(rt: &impl Print) -> io::Result<()> {
     let mut store = [0u8; 20];
     let mut longer = [0u8; 300];
-    seconds();
-    short(&mut store);
-    split(&mut longer);
-    begun();
+    seconds(rt)?;
+    short(rt, &mut store)?;
+    split(rt, &mut longer)?;
+    begun(rt)?;
     let fault = store::check::fault(&BROKEN);
     print::number(
+        rt,
         b"entry of 86401: number ",
         octets::byte::usize_of(fault.number),
-    );
-    print::number(b", position ", fault.position);
-    print::text(b"\n");
+    )?;
+    print::number(rt, b", position ", fault.position)?;
+    print::text(rt, b"\n")
 }

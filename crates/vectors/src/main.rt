@@ -9,6 +9,7 @@ mod print;
 mod table;
 
 use octets::Place;
+use std::io;
 
 // The first bytes of a slice, so many.
 fn front(len: usize) -> Place {
@@ -19,11 +20,11 @@ fn front(len: usize) -> Place {
     }
 }
 
-fn main() {
-    table::rows();
-    table::transfer_responses();
-    table::negative_responses();
-    lengths::lengths();
-    days::days();
-    addresses::addresses();
+fn main(rt: HostRuntime) -> io::Result<()> {
+    table::rows(&rt)?;
+    table::transfer_responses(&rt)?;
+    table::negative_responses(&rt)?;
+    lengths::lengths(&rt)?;
+    days::days(&rt)?;
+    addresses::addresses(&rt)
 }

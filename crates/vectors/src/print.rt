@@ -1,32 +1,33 @@
 // Text, numbers and bytes on standard output.
-use libc::STDOUT_FILENO;
+use std::io;
 
 const DIGITS: [u8; 16] = *b"0123456789ABCDEF";
 
-pub(crate) fn text(s: &[u8]) {
-    io::write_all(STDOUT_FILENO, s);
+pub(crate) fn text(rt: &impl Print, s: &[u8]) -> io::Result<()> {
+    rt.write_all(s)
 }
 
 // A number, behind the text that says what it is.
-pub(crate) fn number(what: &[u8], n: usize) {
-    text(what);
-    io::print_decimal(STDOUT_FILENO, n as u64);
+pub(crate) fn number(rt: &impl Print, what: &[u8], n: usize) -> io::Result<()> {
+    text(rt, what)?;
+    rt.print(n)
 }
 
 // Each byte in hexadecimal, a blank before it.
-pub(crate) fn bytes(s: &[u8]) {
+pub(crate) fn bytes(rt: &impl Print, s: &[u8]) -> io::Result<()> {
     let mut i = 0;
     while i < s.len() {
         let b = octets::byte::usize_of(s[i]);
-        text(&[b' ', DIGITS[b / 16], DIGITS[b % 16]]);
+        text(rt, &[b' ', DIGITS[b / 16], DIGITS[b % 16]])?;
         i += 1;
     }
+    Ok(())
 }
 
-pub(crate) fn same(a: &[u8], b: &[u8]) {
+pub(crate) fn same(rt: &impl Print, a: &[u8], b: &[u8]) -> io::Result<()> {
     if octets::buffer::same(a, b) {
-        text(b", the same\n");
+        text(rt, b", the same\n")
     } else {
-        text(b", not the same\n");
+        text(rt, b", not the same\n")
     }
 }

@@ -4,6 +4,7 @@ ghost use Rattle.std.specs.Prelude.{◌≤◌, ◌<◌, length};
 use crate::print;
 use frame::{End, LAB};
 use octets::{Place, Written};
+use std::io;
 
 // A row is a name and bytes, each behind its length. Here are the frames that the table gives whole, to the unit and to
 // the tool.
@@ -58,17 +59,19 @@ const SIDS: [u8; 8] = *b"\x81\x10\x87\x35\x36\x37\x82\x83";
 const CODES: [u8; 9] = *b"\x10\x11\x12\x13\x22\x31\x50\x78\xfa";
 
 // The number of the frame at its end and at the other one.
-fn judged(name: &[u8], frame: &[u8], end: End, other: End) {
-    print::text(name);
-    print::bytes(frame);
+fn judged(rt: &impl Print, name: &[u8], frame: &[u8], end: End, other: End) -> io::Result<()> {
+    print::text(rt, name)?;
+    print::bytes(rt, frame)?;
     print::number(
+        rt,
         b": at its end ",
         octets::byte::usize_of(frame::call::check(LAB, frame, end)),
-    );
+    )?;
     print::number(
+        rt,
         b", at the other end ",
         octets::byte::usize_of(frame::call::check(LAB, frame, other)),
-    );
+    )
 }
 
 // Writes a frame anew from its data; the start of communication has a form of its own.
@@ -80,22 +83,30 @@ fn anew(frame: &[u8], end: End, out: &mut [u8]) -> Written {
 }
 
 // A frame that the table gives whole: judged, and written anew.
-fn whole(name: &[u8], bytes: &[u8], end: End, other: End) {
+fn whole(rt: &impl Print, name: &[u8], bytes: &[u8], end: End, other: End) -> io::Result<()> {
     let mut out = [0u8; 260];
-    judged(name, bytes, end, other);
+    judged(rt, name, bytes, end, other)?;
     let written = anew(bytes, end, &mut out);
-    print::number(b", written anew ", octets::byte::usize_of(written.number));
-    print::same(octets::buffer::part(&out, crate::front(written.len)), bytes);
+    print::number(
+        rt,
+        b", written anew ",
+        octets::byte::usize_of(written.number),
+    )?;
+    print::same(
+        rt,
+        octets::buffer::part(&out, crate::front(written.len)),
+        bytes,
+    )
 }
 
 // A frame of which the table leaves bytes open: written from its data, judged, and its data read back.
-fn of_data(name: &[u8], data: &[u8], end: End, other: End) {
+fn of_data(rt: &impl Print, name: &[u8], data: &[u8], end: End, other: End) -> io::Result<()> {
     let mut out = [0u8; 260];
     let written = frame::call::write(LAB, data, end, &mut out);
     let bytes = octets::buffer::part(&out, crate::front(written.len));
-    judged(name, bytes, end, other);
-    print::text(b", data read back");
-    print::same(frame::call::data_of(LAB, bytes, end), data);
+    judged(rt, name, bytes, end, other)?;
+    print::text(rt, b", data read back")?;
+    print::same(rt, frame::call::data_of(LAB, bytes, end), data)
 }
 
 // Where the bytes lie whose length stands at `at`.
@@ -117,7 +128,14 @@ fn field(rows: &[u8], at: usize) -> Place
 }
 
 // Each row in turn.
-fn run(rows: &[u8], count: usize, is_whole: bool, end: End, other: End) {
+fn run(
+    rt: &impl Print,
+    rows: &[u8],
+    count: usize,
+    is_whole: bool,
+    end: End,
+    other: End,
+) -> io::Result<()> {
     let mut at = 0;
     let mut i = 0;
     while i < count {
@@ -126,45 +144,50 @@ fn run(rows: &[u8], count: usize, is_whole: bool, end: End, other: End) {
         let name = octets::buffer::part(rows, first);
         let bytes = octets::buffer::part(rows, second);
         if is_whole {
-            whole(name, bytes, end, other);
+            whole(rt, name, bytes, end, other)?;
         } else {
-            of_data(name, bytes, end, other);
+            of_data(rt, name, bytes, end, other)?;
         }
         at = second.start + second.len;
         i += 1;
     }
+    Ok(())
 }
 
-pub(crate) fn rows() {
-    run(&TO_UNIT, 12, true, End::Unit, End::Tool);
-    run(&REQUESTS, 19, false, End::Unit, End::Tool);
-    run(&TO_TOOL, 6, true, End::Tool, End::Unit);
+pub(crate) fn rows(rt: &impl Print) -> io::Result<()> {
+    run(rt, &TO_UNIT, 12, true, End::Unit, End::Tool)?;
+    run(rt, &REQUESTS, 19, false, End::Unit, End::Tool)?;
+    run(rt, &TO_TOOL, 6, true, End::Tool, End::Unit)
 }
 
 // One data byte for each TREP.
-pub(crate) fn transfer_responses() {
+pub(crate) fn transfer_responses(rt: &impl Print) -> io::Result<()> {
     let mut i: usize = 0;
     while i < 15 {
         of_data(
+            rt,
             b"positive response transfer data",
             &[0x76, TREPS[i], 0x5A],
             End::Tool,
             End::Unit,
-        );
+        )?;
         i += 1;
     }
+    Ok(())
 }
 
 // Every code to every request.
-pub(crate) fn negative_responses() {
+pub(crate) fn negative_responses(rt: &impl Print) -> io::Result<()> {
     let mut i: usize = 0;
     while i < 72 {
         of_data(
+            rt,
             b"negative response",
             &[0x7F, SIDS[i / 9], CODES[i % 9]],
             End::Tool,
             End::Unit,
-        );
+        )?;
         i += 1;
     }
+    Ok(())
 }
