@@ -10,28 +10,28 @@ ruleset all = (rules, written_is, kept_by, changed-by, zero-by, accepted-length,
 
 pub returns-then-number-ne0-clause-value : goal.returns-then-number-ne0-clause-value
 unfolding append_result append_out header_size entry_size entries_size
-returns-then-number-ne0-clause-value c = search all
+returns-then-number-ne0-clause-value c = search (written_is, kept_by)
 
 pub returns-then-number-ne0-clause-store_after : goal.returns-then-number-ne0-clause-store_after
 unfolding append_result append_out header_size entry_size entries_size
-returns-then-number-ne0-clause-store_after c = search all
+returns-then-number-ne0-clause-store_after c = search kept_by
 
 pub put_last-requires-clause-store_bound : goal.put_last-requires-clause-store_bound
 unfolding append_result append_out header_size entry_size entries_size
-put_last-requires-clause-store_bound c = search (rules, accepted-count narrow, accepted-stream narrow, accepted-room narrow)
+put_last-requires-clause-store_bound c = search (zero-by, accepted-count narrow)
 
 pub put_last-requires-clause-answer_bound : goal.put_last-requires-clause-answer_bound
 unfolding append_result append_out header_size entry_size entries_size
-put_last-requires-clause-answer_bound c = search (rules, accepted-count narrow, accepted-stream narrow, accepted-room narrow)
+put_last-requires-clause-answer_bound c = search (zero-by, accepted-stream narrow)
 
 pub put_last-requires-clause-answer_in_bounds : goal.put_last-requires-clause-answer_in_bounds
 unfolding append_result append_out header_size entry_size entries_size
-put_last-requires-clause-answer_in_bounds c = search (rules, accepted-count narrow, accepted-stream narrow, accepted-room narrow)
+put_last-requires-clause-answer_in_bounds c = search (zero-by, accepted-room narrow)
 
 pub returns-clause-value : goal.returns-clause-value
 unfolding append_result append_out header_size entry_size entries_size
-returns-clause-value c = search all
+returns-clause-value c = search (written_is, zero-by, changed-by, accepted-length)
 
 pub returns-clause-store_after : goal.returns-clause-store_after
 unfolding append_result append_out header_size entry_size entries_size
-returns-clause-store_after c = search all
+returns-clause-store_after c = search (zero-by, changed-by, accepted-out)
