@@ -4,7 +4,7 @@ CHECKED := -fsanitize=address,undefined -fno-sanitize-recover=undefined
 BUILT := target/host
 ARCHIVE := target/staticlib/libhost.a
 LIBRARY := target/lib/libtacho.a
-SOURCES := crates.txt $(shell find crates -name '*.rt' -o -name '*.antt')
+SOURCES := crates.txt $(shell find crates -name out -prune -o \( -name '*.rt' -o -name '*.antt' \) -print)
 REFERENCE := $(patsubst host/%.c,%,$(wildcard host/tests/reference/*.c))
 HEADERS := $(wildcard host/*/*.h host/tests/reference/*.h)
 INCLUDES := -Ihost/include -Ihost/tests/reference -Ihost/demo
@@ -16,24 +16,26 @@ TESTS := addresses days differential download_test faults line_test slow_peer
 .PHONY: help test run prove bench bench-count library programs tests install clean
 help:
 	@echo "make run            a whole download between both ends over a bad line, from C"
-	@echo "make test           the gate: every proof from nothing, the must-fail edits, the programs and the C tests"
+	@echo "make test           the gate: every proof, the must-fail edits, the programs and the C tests"
 	@echo "make prove CRATE=x  proves one crate and those below it (without CRATE: all), and runs no edit"
 	@echo "make library        $(LIBRARY), proved where a crate changed"
 	@echo "make install        header, library and pkg-config file to PREFIX ($(PREFIX)); DESTDIR is put in front"
 	@echo "make programs       the demo programs, in $(BUILT)"
 	@echo "make bench          the proved calls against plain C; make bench-count: instructions by callgrind"
-	@echo "make clean          removes target/, all that was proved and built"
+	@echo "make clean          removes target/ and each crate's out/, all that was proved and built here"
 	@echo "scripts/try         a wrong program, and why the prover refuses it"
 
 test:
-	@scripts/in-memory scripts/test
+	@scripts/test
 
 run: programs
 	@host/demo/run $(BUILT)
 
 prove:
 	@scripts/need rt
-	@scripts/in-memory rt check $(CRATE)
+	@if [ -z "$(CRATE)" ]; then rt all check; \
+	elif [ -d "crates/$(CRATE)" ]; then cd "crates/$(CRATE)" && rt check; \
+	else echo "there is no crate $(CRATE): crates.txt lists them" >&2; exit 2; fi
 
 bench: $(BUILT)/bench
 	@$(BUILT)/bench
@@ -46,13 +48,9 @@ library: $(LIBRARY)
 programs: $(PROGRAMS:%=$(BUILT)/%)
 tests: $(TESTS:%=$(BUILT)/%)
 
-# proved anew where a file of a crate changed; the crates below host are proved beside each other
+# proved and built anew where a file of a crate changed
 $(ARCHIVE): $(SOURCES)
-	@scripts/need rt gcc
-	@mkdir -p $(BUILT)
-	@[ -e target/rlib/tool.rlib ] || echo "proving the library: this takes some minutes the first time"
-	@scripts/in-memory sh -c 'rt check unit tool records append states && rt staticlib host' \
-		>$(BUILT)/archive.log 2>&1 || { cat $(BUILT)/archive.log; exit 1; }
+	@scripts/archive $@
 
 # the proved calls, and the texts beside them
 $(LIBRARY): $(ARCHIVE) host/lib/text.c host/include/tacho.h
@@ -96,4 +94,4 @@ $(TESTS:%=$(BUILT)/%):
 	@gcc $(CFLAGS) $(CHECKED) $^ -o $@
 
 clean:
-	@rm -rf target
+	@rm -rf target crates/*/out
