@@ -1,5 +1,5 @@
-// The calls of crate host under their names for C (host/include/tacho.h), as a static library. Each hands its arguments on
-// to the call of that name and promises what that call promises.
+// The calls of crate host under their names for C (host/include/tacho.h), as a static library. Each hands its arguments
+// on to the call of that name and promises what that call promises.
 #![tactic(auto)]
 
 pub mod arrays;
