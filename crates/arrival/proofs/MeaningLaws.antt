@@ -39,13 +39,13 @@ module _ (t : ToolState) (d : List ℕ) where
   unfolding is_refusal
   refusal-long h = rw (ne_eqb (length d) 3 h)
 
-  pub refusal-other : length d ≡ 3 → (get_or d 0 0 ≡ 0x7_f → ⊥) → false ≡ is_refusal t d
+  pub refusal-other : length d ≡ 3 → (get_or d 0 0 ≡ 0x7F → ⊥) → false ≡ is_refusal t d
   unfolding is_refusal
-  refusal-other l h = rw (eq-eqb (length d) 3 l, ne_eqb (get_or d 0 0) 0x7_f h)
+  refusal-other l h = rw (eq-eqb (length d) 3 l, ne_eqb (get_or d 0 0) 0x7F h)
 
-  pub refusal-named : (s : ℕ) → length d ≡ 3 → get_or d 0 0 ≡ 0x7_f → s ≡ sid_sent t.request t.expected.0 → eqb (get_or d 1 0) s ≡ is_refusal t d
+  pub refusal-named : (s : ℕ) → length d ≡ 3 → get_or d 0 0 ≡ 0x7F → s ≡ sid_sent t.request t.expected.0 → eqb (get_or d 1 0) s ≡ is_refusal t d
   unfolding is_refusal
-  refusal-named s l h e = rw (eq-eqb (length d) 3 l, eq-eqb (get_or d 0 0) 0x7_f h, e)
+  refusal-named s l h e = rw (eq-eqb (length d) 3 l, eq-eqb (get_or d 0 0) 0x7F h, e)
 
 -- What the data is of the answer, and whether it fits
 

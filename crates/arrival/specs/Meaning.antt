@@ -47,7 +47,7 @@ transfer_meaning room_len t d =
 -- "A three-byte 7F reply naming the SID last sent"
 unfoldable pub is_refusal : ToolState → List ℕ → Bool
 is_refusal t d =
-    eqb (length d) 3 && (eqb (get_or d 0 0) 0x7_f && eqb (get_or d 1 0) (sid_sent t.request t.expected.0))
+    eqb (length d) 3 && (eqb (get_or d 0 0) 0x7F && eqb (get_or d 1 0) (sid_sent t.request t.expected.0))
 
 -- "code 78 starts the wait anew and sends nothing; another code ends the request with that code"
 unfoldable pub refusal_meaning : ℕ → Meaning

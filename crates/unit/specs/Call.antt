@@ -56,7 +56,7 @@ reply_data store (AnswerSent name k place) = sub_field name.trep k.0 (data_in st
 reply_data store AnswerStopped = []
 reply_data store TransferExited = exit_reply
 reply_data store CommunicationStopped = stop_reply
-reply_data store (Negative sid code) = 0x7_f ∷ sid ∷ code ∷ []
+reply_data store (Negative sid code) = 0x7F ∷ sid ∷ code ∷ []
 
 -- the bytes that go to the tool
 unfoldable pub reply_to : Addresses → List ℕ → List ℕ

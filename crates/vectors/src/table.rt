@@ -147,7 +147,7 @@ pub(crate) fn transfer_responses() {
     while i < 15 {
         of_data(
             b"positive response transfer data",
-            &[0x76, TREPS[i], 0x5_a],
+            &[0x76, TREPS[i], 0x5A],
             End::Tool,
             End::Unit,
         );
@@ -161,7 +161,7 @@ pub(crate) fn negative_responses() {
     while i < 72 {
         of_data(
             b"negative response",
-            &[0x7_f, SIDS[i / 9], CODES[i % 9]],
+            &[0x7F, SIDS[i / 9], CODES[i % 9]],
             End::Tool,
             End::Unit,
         );
