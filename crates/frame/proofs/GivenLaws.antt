@@ -16,7 +16,7 @@ module _ (a : Addresses) where
   unfolding different
   different-ones n = rw (ne_eqb a.unit a.tool n)
 
--- `search (needs, given)`: refused, or the call at two different ones
+-- `search (rules, given)`: refused, or the call at two different ones
 module _ {A : Type 0} (a : Addresses) (refusal rest : A) where
   pub equal-refused : (x : A) → a.unit ≡ a.tool → x ≡ refusal → x ≡ unless (different a) refusal rest
   equal-refused x q e = rw (equal-ones a q) e

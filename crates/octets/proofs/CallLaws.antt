@@ -40,7 +40,7 @@ place-refused r number start m place e n q = q ∙ place_is r 0 0 number start m
 pub zero-by : (r number : ℕ) → r ≡ number → r ≡ 0 → 0 ≡ number
 zero-by r number e n = sym n ∙ e
 
--- `search (needs, calls)` for the returns of a call that tests its number
+-- `search (rules, calls)` for the returns of a call that tests its number
 pub ruleset calls = (written_is, place_is, counted_is, kept_by, changed-by, zero-by)
 
 -- the part at the place that a call gave

@@ -3,10 +3,7 @@ use Rattle.octets.proofs.CallLaws.{written_is, kept_by, changed-by, zero-by}
 use Rattle.append.specs.Append.{append_result, append_out}
 use Rattle.append.proofs.AppendLaws.{accepted-count, accepted-stream, accepted-room, accepted-length, accepted-out}
 use Rattle.store.specs.Layout.{narrow, header_size, entry_size, entries_size}
-use Rattle.std.proofs.Common.{rules}
 use Rattle.append.proofs.append.Goals as goal
-
-ruleset all = (rules, written_is, kept_by, changed-by, zero-by, accepted-length, accepted-out)
 
 pub returns-then-number-ne0-clause-value : goal.returns-then-number-ne0-clause-value
 unfolding append_result append_out header_size entry_size entries_size
