@@ -1,7 +1,7 @@
--- Refused by the number, and nothing changes.
-use Rattle.std.proofs.Common.{refl}
-use Rattle.octets.proofs.CallLaws.{kept_by}
+-- Refused by the number: silence.
+use Rattle.std.proofs.Common.{ne_eqb}
+use Rattle.octets.proofs.Tests.{cond-f}
 use Rattle.unit.proofs.call.reaction_to.Goals as goal
 
 pub returns-then-number-ne0 : goal.returns-then-number-ne0
-returns-then-number-ne0 c = search (kept_by, refl)
+returns-then-number-ne0 c = search (cond-f, ne_eqb)
