@@ -86,7 +86,8 @@ fn write_entry(store: &mut [u8], at: usize, day: u32, offset: u32, len: u32)
 fn put_last(store: &mut [u8], answer: &[u8], day: u32)
     requires store_bound { answers narrow store.old + 1 ≤ narrow.answers_most }
     requires answer_bound { stream_length narrow store.old + length answer.now ≤ narrow.stream_most }
-    requires answer_in_bounds { store_length narrow store.old + entry_size narrow + length answer.now ≤ length store.old }
+    requires answer_in_bounds { store_length narrow store.old + entry_size narrow + length answer.now
+        ≤ length store.old }
     ensures { store.new
         ≡ front (with_answer narrow answer.now day store.old) store.old }
 {

@@ -1,11 +1,11 @@
 -- The two cable ends, for the line (document 01, "The line and the book"). Each call is given both addresses
 -- (document 02, Req 05), and each end is put together from the definitions that the calls promise, so that what is
 -- claimed of the ends is claimed of the calls:
---   call                     its promise: result, output and room at exit                     here
---   unit::call::step         unit_result_given, unit_out_given                                     unit_call
---   tool::call::begin        begin_result_given, begin_out_given                                   tool_begun
---   tool::call::arrived      arrival_result_given, arrival_out_given, arrival_room_given             tool_arrival
---   tool::call::wait_ended   wait_result_given, wait_out_given                                     tool_wait_end
+--   call                     its promise: result, output and room at exit                       here
+--   unit::call::step         unit_result_given, unit_out_given                                  unit_call
+--   tool::call::begin        begin_result_given, begin_out_given                                tool_begun
+--   tool::call::arrived      arrival_result_given, arrival_out_given, arrival_room_given        tool_arrival
+--   tool::call::wait_ended   wait_result_given, wait_out_given                                  tool_wait_end
 -- The front `len` bytes of an output at exit are the string that is put out here (proofs/Calls.antt).
 use Rattle.std.specs.Prelude.{Bool, cond, not, List, [], ◌∷◌, ℕ, length, eqb}
 use Rattle.std.proofs.Math.Option.{none, some}

@@ -1,5 +1,6 @@
 -- "Numbers on the wire are hexadecimal, most significant byte first" (document 01), over the width of a field.
-use Rattle.std.specs.Prelude.{ℕ, zero, suc, ◌+◌, ◌*◌, ◌/◌, ◌%◌, Bool, cond, ◌&&◌, ◌||◌, List, [], ◌∷◌, ◌++◌, length, eqb, leb}
+use Rattle.std.specs.Prelude.{ℕ, zero, suc, ◌+◌, ◌*◌, ◌/◌, ◌%◌, Bool, cond, ◌&&◌, ◌||◌}
+use Rattle.std.specs.Prelude.{List, [], ◌∷◌, ◌++◌, length, eqb, leb}
 use Rattle.octets.specs.Buffer.{part_at, put}
 
 -- the number that the bytes go on to, behind those read so far

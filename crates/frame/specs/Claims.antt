@@ -81,7 +81,8 @@ pub record GivenClaims : Type 0 where
   pub same_number : (a b : Addresses) (end : End) (s : List ℕ) → judged b end (readdressed a b end s) ≡ judged a end s
   pub same_data : (a b : Addresses) (end : End) (s : List ℕ) → data_of b end (readdressed a b end s) ≡ data_of a end s
   -- and a written frame becomes the one written there: "The five-byte start frame carries them too, and its CS follows"
-  pub same_frame : (a b : Addresses) (end : End) (d : List ℕ) → readdressed a b end (frame_of a end d) ≡ frame_of b end d
+  pub same_frame : (a b : Addresses) (end : End) (d : List ℕ)
+      → readdressed a b end (frame_of a end d) ≡ frame_of b end d
   pub same_start : (a b : Addresses) → readdressed a b ends.Unit (start_frame a) ≡ start_frame b
   -- every good frame at b comes from one at a
   pub back : (a b : Addresses) (end : End) (f : List ℕ) → judged b end f ≡ 0

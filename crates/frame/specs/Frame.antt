@@ -1,7 +1,9 @@
 -- Document 01, Frames (DDP_002, table in 003), over the addresses of both ends.
-use Rattle.std.specs.Prelude.{ℕ, ◌+◌, ◌-◌, Bool, true, false, cond, ◌&&◌, ◌||◌, List, [], ◌∷◌, ◌++◌, length, get_or, take, ltb, leb, eqb}
+use Rattle.std.specs.Prelude.{ℕ, ◌+◌, ◌-◌, Bool, true, false, cond, ◌&&◌, ◌||◌}
+use Rattle.std.specs.Prelude.{List, [], ◌∷◌, ◌++◌, length, get_or, take, ltb, leb, eqb}
 use Rattle.octets.specs.Order.{unless}
-use Rattle.octets.specs.Numbers.{done, frame_count, format_or_address, checksum_wrong, buffer_short, changed_by, written_by}
+use Rattle.octets.specs.Numbers.{done, frame_count, format_or_address, checksum_wrong, buffer_short}
+use Rattle.octets.specs.Numbers.{changed_by, written_by}
 use Rattle.octets.specs.Numbers.{place_by}
 use Rattle.octets.specs.Sum.{checksum_of}
 use Rattle.octets.specs.Buffer.{part_at, front}

@@ -16,7 +16,8 @@ use Rattle.tool.specs.declared.ToolStep.{ToolStep}
 use Rattle.progress.specs.State.{fresh_tool}
 use Rattle.tool.specs.Call.{refused_tool, begin_result, begin_out, arrival_result_given, arrival_room_given}
 use Rattle.tool.specs.Call.{arrival_out_given, wait_result_given, wait_out_given}
-use Rattle.states.specs.Packed.{unit_size, packed_unit, unpacked_unit, tool_size, request_from, packed_tool, unpacked_tool}
+use Rattle.states.specs.Packed.{unit_size, packed_unit, unpacked_unit}
+use Rattle.states.specs.Packed.{tool_size, request_from, packed_tool, unpacked_tool}
 
 -- The unit
 

@@ -17,7 +17,8 @@ use Rattle.store.specs.Faults.{IsFault}
 use Rattle.unit.specs.declared.UnitReply.{UnitReply}
 use Rattle.tool.specs.declared.ToolStep.{ToolStep}
 use Rattle.unit.specs.Call.{unit_result, unit_out}
-use Rattle.tool.specs.Call.{request_number, begin_result, begin_out, arrival_result, arrival_room, arrival_out, wait_result}
+use Rattle.tool.specs.Call.{request_number, begin_result, begin_out}
+use Rattle.tool.specs.Call.{arrival_result, arrival_room, arrival_out, wait_result}
 use Rattle.tool.specs.Call.{wait_out}
 use Rattle.states.specs.Packed.{is_unit, unpacked_unit, request_from, is_tool, unpacked_tool}
 use Rattle.host.specs.Calls.{unit_fresh_number, unit_fresh_state, unit_handed, unit_kept, unit_step, unit_step_reply}

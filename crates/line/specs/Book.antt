@@ -88,8 +88,8 @@ abbrev pub waits_anew : Book → Book → Bool
 waits_anew before after = not (eqb after.taken before.taken) && is_waiting after.outcome
 
 -- System and book after some events. put_out_before: the frames that the tool had put out before the step forward with
--- which its last wait began, so that put_out less put_out_before is the frames put out since. At done no wait begins: it
--- stays.
+-- which its last wait began, so that put_out less put_out_before is the frames put out since. At done no wait begins:
+-- it stays.
 pub record Run (E : Ends) : Type 0 where
   pub system : System E
   pub book : Book

@@ -1,6 +1,7 @@
 -- Parts of a list of bytes, and what a lent buffer holds after a write: "A reply of m bytes changes only the first m of
 -- its buffer".
-use Rattle.std.specs.Prelude.{ℕ, ◌+◌, ◌<◌, Bool, true, false, cond, ◌&&◌, List, [], ◌∷◌, ◌++◌, length, take, drop, ◌==◌, nat_le, slice_index}
+use Rattle.std.specs.Prelude.{ℕ, ◌+◌, ◌<◌, Bool, true, false, cond, ◌&&◌}
+use Rattle.std.specs.Prelude.{List, [], ◌∷◌, ◌++◌, length, take, drop, ◌==◌, nat_le, slice_index}
 use Rattle.std.proofs.Math.Seq.{slice}
 
 -- what a slice of bytes holds

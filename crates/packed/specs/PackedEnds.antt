@@ -1,11 +1,12 @@
 -- The two cable ends as a C host drives them: packed states, room, store, frame and output are the byte slices that it
 -- lends, and what a call leaves at the front of its output goes on the line. Each end is put together from the
 -- definitions that the calls of tacho.h promise (specs/Calls.antt of host):
---   call                      its promise: result and state of a step, then the buffers at exit       here
---   tacho_unit_step_at        unit_handed and unit_kept of unit_step; unit_step_reply                      unit_call
---   tacho_tool_begin_at       tool_handed and tool_kept of tool_begin; tool_begin_out                      tool_begun
---   tacho_tool_arrived_at     tool_handed and tool_kept of tool_arrival; tool_arrival_room, tool_arrival_out tool_arrival
---   tacho_tool_wait_ended_at  tool_handed and tool_kept of tool_wait; tool_wait_out                        tool_wait_end
+--   call                      its promise: result and state of a step, then the buffers at exit   here
+--   tacho_unit_step_at        unit_handed and unit_kept of unit_step; unit_step_reply             unit_call
+--   tacho_tool_begin_at       tool_handed and tool_kept of tool_begin; tool_begin_out             tool_begun
+--   tacho_tool_arrived_at     tool_handed and tool_kept of tool_arrival;                          tool_arrival
+--                             tool_arrival_room, tool_arrival_out
+--   tacho_tool_wait_ended_at  tool_handed and tool_kept of tool_wait; tool_wait_out               tool_wait_end
 -- The calls without the suffix _at promise the same of the lab's addresses.
 use Rattle.std.specs.Prelude.{cond, List, ℕ, length, take, eqb}
 use Rattle.std.proofs.Math.Option.{none, some}

@@ -2,7 +2,8 @@
 // heard when not closed.
 ghost use Rattle.std.specs.Prelude.{◌≡◌, not, ◌&&◌, ◌||◌, eqb, leb, get_or};
 ghost use Rattle.services.specs.State.{in_session, is_granted};
-ghost use Rattle.services.specs.Services.{on_session, on_rate_offer, on_rate_change, on_link_control, on_upload, on_exit};
+ghost use Rattle.services.specs.Services.{on_session, on_rate_offer, on_rate_change, on_link_control};
+ghost use Rattle.services.specs.Services.{on_upload, on_exit};
 ghost use Rattle.services.specs.Services.{on_stop};
 
 use crate::{Phase, Reaction};

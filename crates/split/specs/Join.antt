@@ -1,5 +1,6 @@
 -- Joining sub messages (document 01, The tool, "Transfer"): what the data of a good frame is with number e expected.
-use Rattle.std.specs.Prelude.{ℕ, zero, suc, ◌+◌, Bool, cond, ◌&&◌, List, [], ◌∷◌, ◌++◌, map, length, drop, ◌==◌, nat_le, nat_lt, slice_index}
+use Rattle.std.specs.Prelude.{ℕ, zero, suc, ◌+◌, Bool, cond, ◌&&◌}
+use Rattle.std.specs.Prelude.{List, [], ◌∷◌, ◌++◌, map, length, drop, ◌==◌, nat_le, nat_lt, slice_index}
 use Rattle.octets.specs.Order.{unless}
 use Rattle.fields.specs.BigEndian.{number_at}
 use Rattle.frame.specs.declared.Addresses.{Addresses}

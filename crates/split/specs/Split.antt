@@ -1,5 +1,6 @@
 -- Document 01, Splitting (Appendix 7, section 2.2.1), over the data of an answer, behind 76 and TREP.
-use Rattle.std.specs.Prelude.{ℕ, ◌+◌, ◌-◌, ◌*◌, ◌/◌, min, Bool, cond, List, [], ◌∷◌, ◌++◌, length, take, drop, nat_le, nat_lt}
+use Rattle.std.specs.Prelude.{ℕ, ◌+◌, ◌-◌, ◌*◌, ◌/◌, min}
+use Rattle.std.specs.Prelude.{Bool, cond, List, [], ◌∷◌, ◌++◌, length, take, drop, nat_le, nat_lt}
 use Rattle.octets.specs.Order.{unless, or_else}
 use Rattle.octets.specs.Numbers.{done, buffer_short, over_bound, no_such, changed_by, written_by, place_by, counted_by}
 use Rattle.fields.specs.BigEndian.{bytes_of}
@@ -40,7 +41,8 @@ carries k d = cond (is_split (length d)) (take piece_size (drop ((k - 1) * piece
 
 -- 8, then 10: "no such .. sub message"
 unfoldable pub piece_number : ℕ → ℕ → ℕ
-piece_number n k = unless (nat_le n data_most) over_bound (unless (nat_le 1 k) no_such (unless (nat_le k (count_of n)) no_such done))
+piece_number n k =
+    unless (nat_le n data_most) over_bound (unless (nat_le 1 k) no_such (unless (nat_le k (count_of n)) no_such done))
 
 -- their place among n data bytes
 unfoldable pub piece_place : ℕ → ℕ → Place

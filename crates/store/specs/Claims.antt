@@ -69,7 +69,8 @@ module _ (f : Form) where
 module _ (f : Form) where
   pub record ListClaims : Type 0 where
     -- every unbroken store is, in its own bytes, the store of its contents, and these are a list that it may hold
-    pub own : (s : List ℕ) → OfForm f s → store_number f s ≡ done → take (store_length f s) s ≡ store_of f (contents f s)
+    pub own : (s : List ℕ) → OfForm f s → store_number f s ≡ done
+        → take (store_length f s) s ≡ store_of f (contents f s)
     pub holdable : (s : List ℕ) → OfForm f s → store_number f s ≡ done → Holdable f (contents f s)
     -- the store of a list that it may hold is unbroken, whatever stands behind it, and has that list as its contents
     pub unbroken : (gs : List Stored) (rest : List ℕ) → Holdable f gs → store_number f (store_of f gs ++ rest) ≡ done

@@ -19,7 +19,8 @@ module _ (f : Form) where
 
   unfoldable pub lookup_place_before : AnswerName → List ℕ → Place
   lookup_place_before name s =
-      place_by (lookup_number_before name s) (answer_start f (position f name s) s) (entry_length f (position f name s) s)
+      place_by (lookup_number_before name s) (answer_start f (position f name s) s)
+      (entry_length f (position f name s) s)
 
 unfoldable pub answer_number_before : List ℕ → ℕ → ℕ
 answer_number_before answer day =
@@ -41,7 +42,8 @@ module _ (f : Form) where
     pub alike : (a b : AnswerName) (s : List ℕ) → rounded a ≡ rounded b → lookup_place f a s ≡ lookup_place f b s
     -- what a store is did not change: an entry's name is judged by document 01's 12, whatever its day
     pub check : (i : ℕ) (s : List ℕ)
-        → answer_right f i s ≡ (eqb (get_or s (answer_start f i s) 0) 0x76 && eqb (name_number_before (name_at f i s)) done)
+        → answer_right f i s
+        ≡ (eqb (get_or s (answer_start f i s) 0) 0x76 && eqb (name_number_before (name_at f i s)) done)
     -- nor what a whole day gives
     pub whole_number : (name : AnswerName) (s : List ℕ) → WholeDay name.day
         → lookup_number f name s ≡ lookup_number_before f name s

@@ -1,6 +1,7 @@
 -- What is claimed of the fault of a store (document 02, Req 06): each number and position exactly where its rule says,
 -- and the bounds of positions. For every form; proofs/Faults.antt proves it.
-use Rattle.std.specs.Prelude.{ℕ, ◌+◌, ◌<◌, ◌≤◌, true, false, List, [], ◌∷◌, ◌++◌, ◌↔◌, ◌⊎◌, ◌≢◌, ◌≡◌, length, get_or, replicate}
+use Rattle.std.specs.Prelude.{ℕ, ◌+◌, ◌<◌, ◌≤◌, true, false}
+use Rattle.std.specs.Prelude.{List, [], ◌∷◌, ◌++◌, ◌↔◌, ◌⊎◌, ◌≢◌, ◌≡◌, length, get_or, replicate}
 use Rattle.octets.specs.Numbers.{store_short, store_bounds, store_entry, store_answer, store_twice}
 use Rattle.catalog.specs.Table.{listed}
 use Rattle.catalog.specs.Name.{day_stored}

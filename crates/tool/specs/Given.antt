@@ -11,7 +11,8 @@ use Rattle.arrival.specs.declared.Meaning.TheVariants.{FailedWait}
 use Rattle.arrival.specs.Meaning.{arrival_meaning}
 use Rattle.tool.specs.Call.{begin_sent, begin_result, begin_out, event_sent, arrival_result, arrival_room, arrival_out}
 use Rattle.tool.specs.Call.{wait_result, wait_out, refused_tool, begin_result_given, begin_out_given}
-use Rattle.tool.specs.Call.{arrival_result_given, arrival_room_given, arrival_out_given, wait_result_given, wait_out_given}
+use Rattle.tool.specs.Call.{arrival_result_given, arrival_room_given, arrival_out_given}
+use Rattle.tool.specs.Call.{wait_result_given, wait_out_given}
 
 -- "two equal ones are 2 .., before any other check": whatever the state, the request, the frame and the buffers are,
 -- the state stays, so that no failed wait and no sending is counted
@@ -49,7 +50,8 @@ pub record Readdressed (a b : Addresses) (t : ToolState) : Type 0 where
       → begin_out_given b t request name out
       ≡ front (readdressed a b ends.Unit (begin_sent a t request name (length out))) out
   pub arrival : (f : List ℕ) (room_len out_len : ℕ)
-      → arrival_result_given b t (readdressed a b ends.Tool f) room_len out_len ≡ arrival_result_given a t f room_len out_len
+      → arrival_result_given b t (readdressed a b ends.Tool f) room_len out_len
+      ≡ arrival_result_given a t f room_len out_len
   pub arrival_room : (f : List ℕ) (out_len : ℕ) (room : List ℕ)
       → arrival_room_given b t (readdressed a b ends.Tool f) out_len room ≡ arrival_room_given a t f out_len room
   pub arrival_out : (f : List ℕ) (room_len : ℕ) (out : List ℕ)

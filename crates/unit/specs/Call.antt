@@ -79,7 +79,8 @@ unit_number a store out_len u b =
 
 -- the next state, and the reply where nothing is refused
 unfoldable pub unit_state : Addresses → List ℕ → ℕ → UnitState → List ℕ → UnitState
-unit_state a store out_len u b = changed_by (unit_number a store out_len u b) (state_after u (reaction_to a store u b)) u
+unit_state a store out_len u b =
+    changed_by (unit_number a store out_len u b) (state_after u (reaction_to a store u b)) u
 
 unfoldable pub unit_reply : Addresses → List ℕ → ℕ → UnitState → List ℕ → List ℕ
 unit_reply a store out_len u b =
