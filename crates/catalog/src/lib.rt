@@ -2,10 +2,11 @@
 #![tactic(auto)]
 
 ghost use Rattle.std.specs.Prelude.{◌&&◌, ◌≡◌};
+ghost use Rattle.octets.specs.Numbers.{judgement};
 ghost use Rattle.catalog.specs.Table.{trtp_of, known_to, listed, in_row, is_activities};
 ghost use Rattle.catalog.specs.Name.{first_second, day_named, name_number, day_stored, rounded, same_answer};
 
-use octets::numbers::NOT_IN_TABLE;
+use octets::refusal::Refusal;
 
 // The kinds of unit.
 pub const GENERATION_1: u8 = 0;
@@ -41,7 +42,7 @@ const TRTP: [u8; 18] = [
 ];
 
 // An answer's name: which data, and for activities any second of the day.
-#[derive(Clone, Copy)]
+#[derive(Clone, Copy, Debug, PartialEq, Eq, Hash)]
 pub struct AnswerName {
     pub trep: u8,
     pub day: u32,
@@ -124,17 +125,17 @@ fn day_named(name: AnswerName) -> bool
     is_activities(name.trep) | (name.day == 0)
 }
 
-// Number 12's rule for a name: 0 where it is allowed.
-pub fn name_number(name: AnswerName) -> u8
-    ensures { result ≡ name_number name }
+// Number 12's rule for a name.
+pub fn check_name(name: AnswerName) -> Result<(), Refusal>
+    ensures { judgement result ≡ name_number name }
 {
     if !is_listed(name.trep) {
-        return NOT_IN_TABLE;
+        return Err(Refusal::NotInTable);
     }
     if !day_named(name) {
-        return NOT_IN_TABLE;
+        return Err(Refusal::NotInTable);
     }
-    0
+    Ok(())
 }
 
 // Whether this day may stand in a store's entry: a multiple of 86,400 for activities, else zero. By its first second,

@@ -1,12 +1,12 @@
 // Judging a frame at the end that it arrives at, and where its data lies, for any two addresses.
 ghost use Rattle.std.specs.Prelude.{◌≡◌, ◌≤◌, length};
-ghost use Rattle.octets.specs.Numbers.{place_by};
+ghost use Rattle.octets.specs.Numbers.{judgement, placed};
 ghost use Rattle.frame.specs.Frame.{target, source, known_format, count_right, start_right, form_right, addressed};
 ghost use Rattle.frame.specs.Frame.{checksum_right, judged, data_start, data_length, data_place};
 
 use crate::{Addresses, End, GENERAL, WITHOUT_LEN};
-use octets::Place;
-use octets::numbers::{CHECKSUM_WRONG, FORMAT_OR_ADDRESS, FRAME_COUNT};
+use octets::Part;
+use octets::refusal::Refusal;
 use octets::wire::START_COMMUNICATION;
 
 // The address that a frame arriving at `end` goes to.
@@ -96,54 +96,46 @@ fn checksum_right(frame: &[u8]) -> bool
     octets::sum::checksum(&frame[..last]) == frame[last]
 }
 
-// The number of a frame that arrives at `end`: 0 where it is good, else 1, 2 or 3.
-pub(crate) fn judge(addresses: Addresses, frame: &[u8], end: End) -> u8
-    ensures { result ≡ judged addresses «end» frame.now }
+// Judges a frame that arrives at `end`: refused by 1, 2 or 3.
+pub(crate) fn judge(addresses: Addresses, frame: &[u8], end: End) -> Result<(), Refusal>
+    ensures { judgement result ≡ judged addresses «end» frame.now }
 {
     if frame.len() < 5 {
-        return FRAME_COUNT;
+        return Err(Refusal::FrameCount);
     }
     if !known_format(frame[0]) {
-        return FORMAT_OR_ADDRESS;
+        return Err(Refusal::FormatOrAddress);
     }
     if !count_right(frame) {
-        return FRAME_COUNT;
+        return Err(Refusal::FrameCount);
     }
     if !addressed_to(addresses, frame, end) {
-        return FORMAT_OR_ADDRESS;
+        return Err(Refusal::FormatOrAddress);
     }
     if !checksum_right(frame) {
-        return CHECKSUM_WRONG;
+        return Err(Refusal::ChecksumWrong);
     }
-    0
+    Ok(())
 }
 
 // Where the data of a good frame lies: behind the header, or the SID of the five-byte start.
-fn place_in(frame: &[u8]) -> Place
+fn data_in(frame: &[u8]) -> Part
     requires { 5 ≤ length frame.now }
-    ensures { result ≡ place_by 0 (data_start frame.now) (data_length frame.now) }
+    ensures { result ≡ record { start = data_start frame.now; len = data_length frame.now } }
 {
     if frame[0] == WITHOUT_LEN {
-        return Place {
-            number: 0,
-            start: 3,
-            len: 1,
-        };
+        return Part { start: 3, len: 1 };
     }
-    Place {
-        number: 0,
+    Part {
         start: 4,
         len: octets::byte::usize_of(frame[3]),
     }
 }
 
-// Where the data of a frame lies, or its number.
-pub fn locate(addresses: Addresses, frame: &[u8], end: End) -> Place
-    ensures { result ≡ data_place addresses «end» frame.now }
+// Where the data of a good frame lies.
+pub fn locate(addresses: Addresses, frame: &[u8], end: End) -> Result<Part, Refusal>
+    ensures { placed result ≡ data_place addresses «end» frame.now }
 {
-    let number = judge(addresses, frame, end);
-    if number != 0 {
-        return octets::refused_place(number);
-    }
-    place_in(frame)
+    judge(addresses, frame, end)?;
+    Ok(data_in(frame))
 }

@@ -3,6 +3,13 @@
 // the two, for crates whose own calls make it.
 #![tactic(auto)]
 
+ghost use Rattle.std.specs.Prelude.{◌≡◌};
+ghost use Rattle.octets.specs.Order.{unless};
+ghost use Rattle.octets.specs.Numbers.{done, format_or_address, judgement};
+ghost use Rattle.frame.specs.Given.{different};
+
+use octets::refusal::Refusal;
+
 pub mod call;
 pub mod check;
 pub mod front;
@@ -21,6 +28,18 @@ pub enum End {
 pub struct Addresses {
     pub unit: u8,
     pub tool: u8,
+}
+
+impl Addresses {
+    // Two equal ones are 2 in every call with them (document 02, Req 05).
+    pub fn differ(self) -> Result<(), Refusal>
+        ensures { judgement result ≡ unless (different self) format_or_address done }
+    {
+        if self.unit == self.tool {
+            return Err(Refusal::FormatOrAddress);
+        }
+        Ok(())
+    }
 }
 
 // The first byte of a frame: the general form, and the one without LEN, of start communication alone.

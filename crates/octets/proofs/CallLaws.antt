@@ -1,7 +1,10 @@
 -- What a call hands back, from its number: the laws that the proofs of all calls cite at their returns.
+use native.Mathlib.Omega.{arith}
 use Rattle.std.proofs.Common.{◌≡◌, ℕ, false, eqb, List, sym, ◌∙◌, ne_eqb}
 use Rattle.octets.specs.Buffer.{part_at}
-use Rattle.octets.specs.Numbers.{changed_by, written_by, place_by, refused_place, counted_by}
+use Rattle.octets.specs.declared.refusal.Refusal.{Refusal}
+use Rattle.octets.specs.declared.refusal.Refusal.TheVariants as refusals
+use Rattle.octets.specs.Numbers.{number, changed_by, written_by, place_by, refused_place, counted_by}
 use Rattle.octets.specs.declared.Written.{Written}
 use Rattle.octets.specs.declared.Place.{Place}
 use Rattle.octets.specs.declared.Counted.{Counted}
@@ -46,3 +49,22 @@ pub ruleset calls = (written_is, place_is, counted_is, kept_by, changed-by, zero
 -- the part at the place that a call gave
 pub part_of : (place place' : Place) (s r : List ℕ) → place ≡ place' → r ≡ part_at place.start place.len s → r ≡ part_at place'.start place'.len s
 part_of place place' s r e q = rw (← e) q
+
+-- no refusal has number 0
+pub refused-number : (refusal : Refusal) → number refusal ≡ 0 → ⊥
+refused-number refusals.FrameCount e = omega arith
+refused-number refusals.FormatOrAddress e = omega arith
+refused-number refusals.ChecksumWrong e = omega arith
+refused-number refusals.BufferShort e = omega arith
+refused-number refusals.NotHeld e = omega arith
+refused-number refusals.AlreadyHeld e = omega arith
+refused-number refusals.OverBound e = omega arith
+refused-number refusals.NotArrays e = omega arith
+refused-number refusals.NoSuch e = omega arith
+refused-number refusals.OutOfTurn e = omega arith
+refused-number refusals.NotInTable e = omega arith
+refused-number refusals.StoreShort e = omega arith
+refused-number refusals.StoreBounds e = omega arith
+refused-number refusals.StoreEntry e = omega arith
+refused-number refusals.StoreAnswer e = omega arith
+refused-number refusals.StoreTwice e = omega arith

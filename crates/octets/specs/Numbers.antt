@@ -3,6 +3,10 @@ use Rattle.std.specs.Prelude.{ℕ, cond, ◌==◌}
 use Rattle.octets.specs.declared.Written.{Written}
 use Rattle.octets.specs.declared.Place.{Place}
 use Rattle.octets.specs.declared.Counted.{Counted}
+use Rattle.octets.specs.declared.Part.{Part}
+use Rattle.octets.specs.declared.refusal.Refusal.{Refusal}
+use Rattle.octets.specs.declared.refusal.Refusal.TheVariants as refusals
+use Rattle.std.specs.Prelude.{Result, Ok, Err, ⊤}
 
 abbrev pub done : ℕ
 done = 0
@@ -92,3 +96,43 @@ refused_place number = record { number = number; start = 0; len = 0 }
 -- a count, or a refusal
 abbrev pub counted_by : ℕ → ℕ → Counted
 counted_by number n = record { number = number; count = changed_by number n 0 }
+
+-- What a call of the code hands back, in numbers: the refusal's own, 0 where it is done.
+
+abbrev pub number : Refusal → ℕ
+number refusals.FrameCount = frame_count
+number refusals.FormatOrAddress = format_or_address
+number refusals.ChecksumWrong = checksum_wrong
+number refusals.BufferShort = buffer_short
+number refusals.NotHeld = not_held
+number refusals.AlreadyHeld = already_held
+number refusals.OverBound = over_bound
+number refusals.NotArrays = not_arrays
+number refusals.NoSuch = no_such
+number refusals.OutOfTurn = out_of_turn
+number refusals.NotInTable = not_in_table
+number refusals.StoreShort = store_short
+number refusals.StoreBounds = store_bounds
+number refusals.StoreEntry = store_entry
+number refusals.StoreAnswer = store_answer
+number refusals.StoreTwice = store_twice
+
+-- of a call that only judges
+abbrev pub judgement : Result ⊤ Refusal → ℕ
+judgement (Ok x) = done
+judgement (Err refusal) = number refusal
+
+-- of one that writes so many bytes
+abbrev pub written : Result ℕ Refusal → Written
+written (Ok n) = record { number = done; len = n }
+written (Err refusal) = record { number = number refusal; len = 0 }
+
+-- of one that finds a part
+abbrev pub placed : Result Part Refusal → Place
+placed (Ok part) = record { number = done; start = part.start; len = part.len }
+placed (Err refusal) = refused_place (number refusal)
+
+-- of one that counts
+abbrev pub counted : Result ℕ Refusal → Counted
+counted (Ok n) = record { number = done; count = n }
+counted (Err refusal) = record { number = number refusal; count = 0 }

@@ -1,8 +1,10 @@
 // Parts of slices, and writing in lent buffers.
 ghost use Rattle.std.specs.Prelude.{◌≡◌};
+ghost use Rattle.octets.specs.Numbers.{placed};
 ghost use Rattle.octets.specs.Buffer.{part_at, copied, shifted, same_bytes};
 
-use crate::Place;
+use crate::refusal::Refusal;
+use crate::{Part, Place};
 
 // The part of `bytes` at `place`, as far as they reach.
 pub fn part(bytes: &[u8], place: Place) -> &[u8]
@@ -19,6 +21,16 @@ pub fn part(bytes: &[u8], place: Place) -> &[u8]
     }
     let end = start + len;
     &bytes[start..end]
+}
+
+// The part that a call found, or none where it refused.
+pub fn found(bytes: &[u8], place: Result<Part, Refusal>) -> &[u8]
+    ensures { result.now ≡ part_at (placed place).start (placed place).len bytes.now }
+{
+    match place {
+        Ok(part) => part.of(bytes),
+        Err(_) => &bytes[..0],
+    }
 }
 
 // Whether the two are the same bytes.

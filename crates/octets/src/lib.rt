@@ -5,11 +5,13 @@
 pub mod buffer;
 pub mod byte;
 pub mod numbers;
+pub mod refusal;
 pub mod sum;
 pub mod wire;
 
 ghost use Rattle.std.specs.Prelude.{◌≡◌};
 ghost use Rattle.octets.specs.Numbers.{refused_place};
+ghost use Rattle.octets.specs.Buffer.{part_at};
 
 // What a call that writes hands back: number 0 and the bytes at the front of the lent buffer, or a refusal and 0.
 #[repr(C)]
@@ -17,6 +19,24 @@ ghost use Rattle.octets.specs.Numbers.{refused_place};
 pub struct Written {
     pub number: u8,
     pub len: usize,
+}
+
+// A part of some bytes.
+#[derive(Clone, Copy, Debug, PartialEq, Eq)]
+pub struct Part {
+    pub start: usize,
+    pub len: usize,
+}
+
+impl Part {
+    // That part of the bytes, as far as they reach.
+    pub fn of<'a>(self, bytes: &'a [u8]) -> &'a [u8]
+        ensures { result.now ≡ part_at self.start self.len bytes.now }
+    {
+        let start = bytes.len().min(self.start);
+        let len = (bytes.len() - start).min(self.len);
+        &bytes[start..start + len]
+    }
 }
 
 // Where a part lies in the bytes handed in: number 0 and its place, or a refusal and an empty part.

@@ -2,7 +2,7 @@
 use Prim.Native.Nat.{ℕ, ◌+◌, ◌*◌, ◌-◌, ◌<◌, ◌≤◌}
 use mathlib.Core.Bool.{Bool, true, false, not, ◌&&◌}
 use mathlib.Core.List.{List, [], ◌∷◌}
-use mathlib.Core.Path.{◌≡◌, refl, sym, ◌∙◌}
+use mathlib.Core.Path.{◌≡◌, refl, sym, ap, ◌∙◌}
 use native.Mathlib.Omega.{arith}
 use native.Mathlib.Decide.{dec_lt}
 use native.Mathlib.Numerals.{add-one}
@@ -237,21 +237,24 @@ module _ (f : Form) (s : List ℕ) where
     pub fault-bounds : counts_fit f s ≡ false → ◌≡◌ {A = Fault} (record { number = 14; position = n }) (store_fault f s)
     fault-bounds c = rw p (sym (first-14 f s header c))
 
-    module _ (counts : counts_fit f s ≡ true) (r : Fault) (e : r ≡ unless (places_right f s) (fault_at 15 (misplaced_at f s)) no_fault) where
-      pub fault-entry : (r.number ≡ 0 → ⊥) → r ≡ store_fault f s
-      fault-entry h = go (places_right f s) refl
-        where
-          go : (b : Bool) → places_right f s ≡ b → r ≡ store_fault f s
-          go true q = let w : r.number ≡ 0 = rw (e, q) in absurd (h w)
-          go false q = let w : r ≡ fault_at 15 (misplaced_at f s) = rw (e, q) in w ∙ sym (first-15 f s header counts q)
-
-      module _ (z : r.number ≡ 0) where
-        placed : places_right f s ≡ true
-        placed = go (places_right f s) refl
+    module _ (counts : counts_fit f s ≡ true) where
+      -- the entries' check ended with r
+      module _ (r : Fault) (e : r ≡ unless (places_right f s) (fault_at 15 (misplaced_at f s)) no_fault) where
+        pub fault-entry : (r.number ≡ 0 → ⊥) → r ≡ store_fault f s
+        fault-entry h = go (places_right f s) refl
           where
-            go : (b : Bool) → places_right f s ≡ b → places_right f s ≡ true
-            go true q = q
-            go false q = let w : r.number ≡ 15 = rw (e, q) in absurd (omega arith)
+            go : (b : Bool) → places_right f s ≡ b → r ≡ store_fault f s
+            go true q = let w : r.number ≡ 0 = rw (e, q) in absurd (h w)
+            go false q = let w : r ≡ fault_at 15 (misplaced_at f s) = rw (e, q) in w ∙ sym (first-15 f s header counts q)
+
+      -- it ended with no fault
+      module _ (e : no_fault ≡ unless (places_right f s) (fault_at 15 (misplaced_at f s)) no_fault) where
+        placed : places_right f s ≡ true
+        placed = go (places_right f s) e
+          where
+            go : (b : Bool) → no_fault ≡ unless b (fault_at 15 (misplaced_at f s)) no_fault → b ≡ true
+            go true q = refl
+            go false q = let w : 0 ≡ 15 = ap (λ (t : Fault). t.number) q in absurd (omega (arith, w))
 
         module _ (wrong : ℕ) (w : wrong ≡ wrong_at f s) where
           pub fault-answer : wrong < n → ◌≡◌ {A = Fault} (record { number = 16; position = wrong }) (store_fault f s)

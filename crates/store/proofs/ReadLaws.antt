@@ -13,8 +13,8 @@ use Rattle.catalog.specs.Name.{rounded, same_answer}
 use Rattle.catalog.specs.declared.AnswerName.{AnswerName}
 use Rattle.catalog.proofs.TableLaws.{absent-unlisted}
 use Rattle.catalog.proofs.DayLaws.{rounded-trep}
-use Rattle.store.specs.declared.HeldAnswer.{HeldAnswer}
-use Rattle.store.specs.declared.TwoPlaces.{TwoPlaces}
+use Rattle.store.specs.Read.{Held}
+use Rattle.store.specs.Read.{TwoPlaces}
 use Rattle.store.specs.Layout.{Form, answers, stream_length, stream_start, entry_length, answer_start, name_at}
 use Rattle.store.specs.Check.{store_number}
 use Rattle.store.specs.Read.{position, lookup_number, lookup_place, lookup_both, stream_place, held_number, held_answer}
@@ -82,17 +82,17 @@ module _ (f : Form) (s : List ℕ) (r : ℕ) (e : r ≡ store_number f s) where
   -- One answer after the other
 
   module _ (k : ℕ) where
-    pub held-broken : (r ≡ 0 → ⊥) → ◌≡◌ {A = HeldAnswer} (record { number = r; name = record { trep = 0; day = 0 }; start = 0; len = 0 }) (held_answer f k s)
+    pub held-broken : (r ≡ 0 → ⊥) → ◌≡◌ {A = Held} (record { number = r; name = record { trep = 0; day = 0 }; start = 0; len = 0 }) (held_answer f k s)
     unfolding held_answer held_number
     held-broken z = rw (← e, ne_eqb r 0 z, ne_eqb r 0 z)
 
     module _ (z : r ≡ 0) (n : ℕ) (q : n ≡ answers f s) where
-      pub held-missing : n ≤ k → ◌≡◌ {A = HeldAnswer} (record { number = 6; name = record { trep = 0; day = 0 }; start = 0; len = 0 }) (held_answer f k s)
+      pub held-missing : n ≤ k → ◌≡◌ {A = Held} (record { number = 6; name = record { trep = 0; day = 0 }; start = 0; len = 0 }) (held_answer f k s)
       unfolding held_answer held_number
       held-missing h = rw (← e, z, ← q, le-ltb k n h)
 
       pub held_found : (name : AnswerName) (b l : ℕ) → k < n → name ≡ name_at f k s → b ≡ answer_start f k s → l ≡ entry_length f k s
-          → ◌≡◌ {A = HeldAnswer} (record { number = 0; name = name; start = b; len = l }) (held_answer f k s)
+          → ◌≡◌ {A = Held} (record { number = 0; name = name; start = b; len = l }) (held_answer f k s)
       unfolding held_answer held_number
       held_found name b l h ns bs ls =
           let t : ltb k (answers f s) ≡ true = rw (← q) (lt-ltb k n h) in

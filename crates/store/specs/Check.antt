@@ -6,7 +6,10 @@ use Rattle.octets.specs.Search.{first_of, any_of, none_of}
 use Rattle.octets.specs.Numbers.{done, store_short, store_bounds, store_entry, store_answer, store_twice}
 use Rattle.catalog.specs.Table.{listed}
 use Rattle.catalog.specs.Name.{day_stored, same_answer}
+use Rattle.octets.specs.Numbers.{number}
+use Rattle.std.specs.Prelude.{Result, Ok, Err, ⊤}
 use Rattle.store.specs.declared.Fault.{Fault}
+use Rattle.store.specs.declared.Broken.{Broken}
 use Rattle.store.specs.Layout.{Form, header_size, answers, stream_length, entry_offset, entry_length}
 use Rattle.store.specs.Layout.{store_length, answer_start, name_at}
 
@@ -58,6 +61,14 @@ fault_at number position = record { number = number; position = position }
 
 abbrev pub no_fault : Fault
 no_fault = fault_at done 0
+
+-- what the code's check hands back
+abbrev pub broken_at : Broken → Fault
+broken_at broken = fault_at (number broken.refusal) broken.position
+
+abbrev pub fault_of : Result ⊤ Broken → Fault
+fault_of (Ok x) = no_fault
+fault_of (Err broken) = broken_at broken
 
 module _ (f : Form) where
   -- "13 and 14 the header's answer count"; "A buffer too short for its header is 13 with position 0"

@@ -8,10 +8,43 @@ use Rattle.octets.specs.declared.Place.{Place}
 use Rattle.octets.specs.declared.Counted.{Counted}
 use Rattle.catalog.specs.Name.{zero_name, rounded, same_answer}
 use Rattle.catalog.specs.declared.AnswerName.{AnswerName}
+use Rattle.octets.specs.Numbers.{number, refused_place}
+use Rattle.octets.specs.declared.Part.{Part}
+use Rattle.octets.specs.declared.refusal.Refusal.{Refusal}
+use Rattle.std.specs.Prelude.{Option, Some, None, Result, Ok, Err}
 use Rattle.store.specs.declared.HeldAnswer.{HeldAnswer}
-use Rattle.store.specs.declared.TwoPlaces.{TwoPlaces}
+use Rattle.store.specs.declared.TwoParts.{TwoParts}
 use Rattle.store.specs.Layout.{Form, answers, stream_start, stream_length, entry_length, answer_start, name_at}
 use Rattle.store.specs.Check.{store_number}
+
+-- where two answers lie, beside the number of the store
+pub record TwoPlaces : Type 0 where
+  pub number : ℕ
+  pub first : Place
+  pub second : Place
+
+-- an answer that is held, or a refusal and zeros
+pub record Held : Type 0 where
+  pub number : ℕ
+  pub name : AnswerName
+  pub start : ℕ
+  pub len : ℕ
+
+-- what the code's calls hand back
+
+-- none: not held
+abbrev pub held_place : Option Part → Place
+held_place (Some part) = record { number = done; start = part.start; len = part.len }
+held_place None = refused_place not_held
+
+abbrev pub two_places : Result TwoParts Refusal → TwoPlaces
+two_places (Ok parts) = record { number = done; first = held_place parts.first; second = held_place parts.second }
+two_places (Err refusal) =
+    record { number = number refusal; first = refused_place (number refusal); second = refused_place (number refusal) }
+
+abbrev pub held_of : Result HeldAnswer Refusal → Held
+held_of (Ok held) = record { number = done; name = held.name; start = held.part.start; len = held.part.len }
+held_of (Err refusal) = record { number = number refusal; name = zero_name; start = 0; len = 0 }
 
 module _ (f : Form) where
   -- the answer with that name, from 0; the count of answers where none has it
@@ -57,7 +90,7 @@ module _ (f : Form) where
   unfoldable pub held_number : ℕ → List ℕ → ℕ
   held_number i s = or_else (store_number f s) (unless (ltb i (answers f s)) not_held done)
 
-  unfoldable pub held_answer : ℕ → List ℕ → HeldAnswer
+  unfoldable pub held_answer : ℕ → List ℕ → Held
   held_answer i s =
       record {
         number = held_number i s;

@@ -2,16 +2,16 @@
 // Of the stream only the first two bytes of each answer are read.
 ghost use Rattle.std.specs.Prelude.{◌≡◌, ◌+◌, ◌*◌, ◌<◌, ◌≤◌, length};
 ghost use Rattle.octets.specs.Order.{unless};
-ghost use Rattle.octets.specs.Numbers.{store_entry};
+ghost use Rattle.octets.specs.Numbers.{judgement, store_entry};
 ghost use Rattle.store.specs.Layout.{narrow, entry_size, entry_start, stream_start, stream_length};
 ghost use Rattle.store.specs.Check.{header_fits, counts_fit, filled_to, place_right, places_right, answer_right};
-ghost use Rattle.store.specs.Check.{fault_at, no_fault, count_read, misplaced_at, wrong_at, repeat_at};
+ghost use Rattle.store.specs.Check.{fault_at, no_fault, fault_of, count_read, misplaced_at, wrong_at, repeat_at};
 ghost use Rattle.store.specs.Check.{store_fault, store_number};
 
 use crate::layout::HEADER;
-use crate::{ANSWERS_MOST, Fault, STREAM_MOST};
+use crate::{ANSWERS_MOST, Broken, STREAM_MOST};
 use catalog::AnswerName;
-use octets::numbers::{STORE_ANSWER, STORE_BOUNDS, STORE_ENTRY, STORE_SHORT, STORE_TWICE};
+use octets::refusal::Refusal;
 use octets::wire::ANSWER;
 
 // Whether the buffer holds its header, and what that says.
@@ -62,9 +62,9 @@ fn place_right(store: &[u8], i: usize, end: usize) -> bool
 
 // 15: the first entry whose offset or length is wrong; the count of answers where each is right and the stream is
 // longer than they are.
-fn entry_fault(store: &[u8]) -> Fault
+fn check_entries(store: &[u8]) -> Result<(), Broken>
     requires { stream_start narrow store.now ≤ length store.now }
-    ensures { result
+    ensures { fault_of result
         ≡ unless (places_right narrow store.now)
         (fault_at store_entry (misplaced_at narrow store.now))
         no_fault }
@@ -78,21 +78,18 @@ fn entry_fault(store: &[u8]) -> Fault
         i += 1;
     }
     if i < n {
-        return Fault {
-            number: STORE_ENTRY,
+        return Err(Broken {
+            refusal: Refusal::StoreEntry,
             position: i,
-        };
+        });
     }
     if end != t {
-        return Fault {
-            number: STORE_ENTRY,
+        return Err(Broken {
+            refusal: Refusal::StoreEntry,
             position: n,
-        };
+        });
     }
-    Fault {
-        number: 0,
-        position: 0,
-    }
+    Ok(())
 }
 
 fn answer_right(store: &[u8], i: usize) -> bool
@@ -152,49 +149,44 @@ fn first_repeat(store: &[u8]) -> usize
 }
 
 // What is broken in the store at the front of the buffer, and where.
-pub fn fault(store: &[u8]) -> Fault
-    ensures { result ≡ store_fault narrow store.now }
+pub fn fault(store: &[u8]) -> Result<(), Broken>
+    ensures { fault_of result ≡ store_fault narrow store.now }
 {
     if !header_fits(store) {
-        return Fault {
-            number: STORE_SHORT,
+        return Err(Broken {
+            refusal: Refusal::StoreShort,
             position: count_read(store),
-        };
+        });
     }
     let count = crate::layout::answers(store);
     if !counts_fit(store) {
-        return Fault {
-            number: STORE_BOUNDS,
+        return Err(Broken {
+            refusal: Refusal::StoreBounds,
             position: count,
-        };
+        });
     }
-    let entry = entry_fault(store);
-    if entry.number != 0 {
-        return entry;
-    }
+    check_entries(store)?;
     let wrong = first_wrong(store);
     if wrong < count {
-        return Fault {
-            number: STORE_ANSWER,
+        return Err(Broken {
+            refusal: Refusal::StoreAnswer,
             position: wrong,
-        };
+        });
     }
     let repeat = first_repeat(store);
     if repeat < count {
-        return Fault {
-            number: STORE_TWICE,
+        return Err(Broken {
+            refusal: Refusal::StoreTwice,
             position: repeat,
-        };
+        });
     }
-    Fault {
-        number: 0,
-        position: 0,
-    }
+    Ok(())
 }
 
-// 0 for an unbroken store at the front of the buffer, else the number of its fault.
-pub fn check(store: &[u8]) -> u8
-    ensures { result ≡ store_number narrow store.now }
+// The same without the place: refused by 13 to 17.
+pub fn check(store: &[u8]) -> Result<(), Refusal>
+    ensures { judgement result ≡ store_number narrow store.now }
 {
-    fault(store).number
+    fault(store)?;
+    Ok(())
 }

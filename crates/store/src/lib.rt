@@ -6,8 +6,12 @@ pub mod check;
 pub mod layout;
 pub mod read;
 
+ghost use Rattle.std.specs.Prelude.{◌≡◌};
+ghost use Rattle.store.specs.Check.{fault_of};
+
 use catalog::AnswerName;
-use octets::Place;
+use octets::Part;
+use octets::refusal::Refusal;
 
 // The most answers that a store holds, and the most bytes of its stream.
 pub const ANSWERS_MOST: usize = 64;
@@ -15,7 +19,14 @@ pub const ANSWERS_MOST: usize = 64;
 pub const STREAM_MOST: usize = 60000;
 
 // What is broken in a store (document 02, Req 06), and where: the header's count of answers, 0 where the buffer is too
-// short for a header, or the entry from 0. Number 0 and position 0: nothing.
+// short for a header, or the entry from 0.
+#[derive(Clone, Copy, Debug, PartialEq, Eq)]
+pub struct Broken {
+    pub refusal: Refusal,
+    pub position: usize,
+}
+
+// The same for a host. Number 0 and position 0: nothing.
 #[repr(C)]
 #[derive(Clone, Copy)]
 pub struct Fault {
@@ -23,19 +34,41 @@ pub struct Fault {
     pub position: usize,
 }
 
-// Where two answers lie: the number of the store's check beside their places.
-#[derive(Clone, Copy)]
-pub struct TwoPlaces {
-    pub number: u8,
-    pub first: Place,
-    pub second: Place,
+impl From<Broken> for Refusal {
+    ghost from_gives = { λ broken refusal. refusal ≡ broken.refusal };
+
+    fn from(broken: Broken) -> Refusal {
+        broken.refusal
+    }
 }
 
-// The k-th answer that a store holds: its name and its place in the buffer, or a refusal and zeros.
-#[derive(Clone, Copy)]
+impl From<Result<(), Broken>> for Fault {
+    ghost from_gives = { λ checked fault. fault ≡ fault_of checked };
+
+    fn from(checked: Result<(), Broken>) -> Fault {
+        match checked {
+            Ok(()) => Fault {
+                number: 0,
+                position: 0,
+            },
+            Err(broken) => Fault {
+                number: broken.refusal.into(),
+                position: broken.position,
+            },
+        }
+    }
+}
+
+// Where two answers lie, none where one is not held.
+#[derive(Clone, Copy, Debug, PartialEq, Eq)]
+pub struct TwoParts {
+    pub first: Option<Part>,
+    pub second: Option<Part>,
+}
+
+// An answer that a store holds: its name and its part of the buffer.
+#[derive(Clone, Copy, Debug, PartialEq, Eq)]
 pub struct HeldAnswer {
-    pub number: u8,
     pub name: AnswerName,
-    pub start: usize,
-    pub len: usize,
+    pub part: Part,
 }

@@ -6,9 +6,9 @@ use Rattle.frame.proofs.call.locate.Goals as goal
 
 ruleset all = (rules, given)
 
-pub returns-then-addresses : goal.returns-then-addresses
+pub returns-in_err-differ : goal.returns-in_err-differ
 unfolding data_place_given
-returns-then-addresses c = search all
+returns-in_err-differ c = search all
 
 pub returns : goal.returns
 unfolding data_place_given

@@ -6,13 +6,13 @@ use Rattle.frame.proofs.call.write.Goals as goal
 
 ruleset all = (rules, given)
 
-pub returns-then-addresses-clause-value : goal.returns-then-addresses-clause-value
+pub returns-in_err-differ-clause-value : goal.returns-in_err-differ-clause-value
 unfolding write_result_given write_out_given
-returns-then-addresses-clause-value c = search all
+returns-in_err-differ-clause-value c = search all
 
-pub returns-then-addresses-clause-out_after : goal.returns-then-addresses-clause-out_after
+pub returns-in_err-differ-clause-out_after : goal.returns-in_err-differ-clause-out_after
 unfolding write_result_given write_out_given
-returns-then-addresses-clause-out_after c = search all
+returns-in_err-differ-clause-out_after c = search all
 
 pub returns-clause-value : goal.returns-clause-value
 unfolding write_result_given write_out_given

@@ -5,11 +5,11 @@ use Rattle.frame.proofs.check.locate.Goals as goal
 
 ruleset all = (rules, good-five, place_none, place-good)
 
-pub returns-then-number-ne0 : goal.returns-then-number-ne0
-returns-then-number-ne0 c = search all
+pub returns-in_err-judge : goal.returns-in_err-judge
+returns-in_err-judge c = search all
 
-pub place_in-requires : goal.place_in-requires
-place_in-requires c = search all
+pub data_in-requires : goal.data_in-requires
+data_in-requires c = search all
 
 pub returns : goal.returns
 returns c = search all

@@ -6,9 +6,9 @@ use Rattle.store.proofs.read.count.Goals as goal
 
 ruleset all = (rules, calls)
 
-pub returns-then-number-ne0 : goal.returns-then-number-ne0
+pub returns-in_err-check : goal.returns-in_err-check
 unfolding count_held
-returns-then-number-ne0 c = search all
+returns-in_err-check c = search all
 
 pub returns : goal.returns
 unfolding count_held

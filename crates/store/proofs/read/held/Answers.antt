@@ -6,8 +6,8 @@ use Rattle.store.proofs.read.held.Goals as goal
 
 ruleset all = (rules, whole-entry, held-broken, held-missing, held_found)
 
-pub returns-then-number-ne0 : goal.returns-then-number-ne0
-returns-then-number-ne0 c = search all
+pub returns-in_err-check : goal.returns-in_err-check
+returns-in_err-check c = search all
 
 pub returns-then-answers-k : goal.returns-then-answers-k
 returns-then-answers-k c = search all

@@ -5,5 +5,5 @@ use Rattle.store.proofs.read.locate_both.Goals as goal
 
 ruleset all = (rules, both-broken, both_found)
 
-pub returns-then-number-ne0 : goal.returns-then-number-ne0
-returns-then-number-ne0 c = search all
+pub returns-in_err-check : goal.returns-in_err-check
+returns-in_err-check c = search all

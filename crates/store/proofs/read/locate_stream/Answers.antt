@@ -5,8 +5,8 @@ use Rattle.store.proofs.read.locate_stream.Goals as goal
 
 ruleset all = (rules, stream-broken, stream-found)
 
-pub returns-then-number-ne0 : goal.returns-then-number-ne0
-returns-then-number-ne0 c = search all
+pub returns-in_err-check : goal.returns-in_err-check
+returns-in_err-check c = search all
 
 pub returns : goal.returns
 returns c = search all

@@ -4,8 +4,8 @@ use Rattle.octets.proofs.SearchLaws.{search-start, search-miss}
 use Rattle.store.specs.Layout.{narrow}
 use Rattle.store.proofs.CheckLaws.{entry_in, filled_none, filled_next, next-within, right_by, wrong-by, entry-wrong, entries-end-short, entries-fill}
 use Rattle.std.proofs.Common.{rules}
-use Rattle.store.proofs.check.entry_fault.Goals as goal
-use Rattle.store.proofs.check.entry_fault.Goals.{then-loop-i-test+else-place_right, else-loop-i-test}
+use Rattle.store.proofs.check.check_entries.Goals as goal
+use Rattle.store.proofs.check.check_entries.Goals.{then-loop-i-test+else-place_right, else-loop-i-test}
 
 pub loop-i-init : goal.loop-i-init
 loop-i-init c = (search rules, search (filled_none narrow), search rules, search search-start)

@@ -5,7 +5,7 @@ use Rattle.octets.specs.Search.{first_from, first_of}
 use Rattle.store.specs.Layout.{narrow, stream_length}
 use Rattle.store.specs.Check.{filled_to}
 use Rattle.store.proofs.CheckLaws.{misplaced}
-use Rattle.store.proofs.check.entry_fault.Given as goal
+use Rattle.store.proofs.check.check_entries.Given as goal
 
 abbrev pub invariant-loop-i : goal.invariant-loop-i
 invariant-loop-i l = (l.i ≤ l.n) × (l.end ≡ filled_to narrow l.i l.store) × (l.end ≤ stream_length narrow l.store)

@@ -1,7 +1,7 @@
 -- Each return is the first check that fails.
 use Rattle.store.proofs.AnswerLaws.{answer-short, answer-other, answer-named}
 use Rattle.std.proofs.Common.{rules}
-use Rattle.store.proofs.answer.answer_number.Goals as goal
+use Rattle.store.proofs.answer.check_answer.Goals as goal
 
 ruleset all = (rules, answer-short, answer-other, answer-named)
 

@@ -2,7 +2,7 @@
 use Rattle.octets.proofs.Tests.{early}
 use Rattle.catalog.specs.Name.{name_number}
 use Rattle.std.proofs.Common.{rules}
-use Rattle.catalog.proofs.name_number.Goals as goal
+use Rattle.catalog.proofs.check_name.Goals as goal
 
 ruleset all = (rules, early)
 
