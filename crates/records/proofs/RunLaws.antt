@@ -77,9 +77,12 @@ module _ (s : List ℕ) (at count : ℕ) (before : count ≤ at) (inside : at < 
       rw (found-next at s a e z) (omega arith)
 
   pub count-broken : filled_from (length s) 0 s ≡ filled_from (length s - count) at s → (a.number ≡ 0 → ⊥)
-      → ◌≡◌ {A = Counted} (record { number = 9; count = 0 }) (array_count s)
-  unfolding body_number is_run
-  count-broken q n = let f : filled_from (length s) 0 s ≡ false = q ∙ rw (fuel, filled-turn (length s - (count + 1)) at s inside, found_none at s a e n) in rw f
+      → ◌≡◌ {A = Counted} (record { number = a.number; count = 0 }) (array_count s)
+  unfolding body_number is_run array_by
+  count-broken q n =
+      let f : filled_from (length s) 0 s ≡ false = q ∙ rw (fuel, filled-turn (length s - (count + 1)) at s inside, found_none at s a e n) in
+      let nine : a.number ≡ 9 = ap (λ (x : Array). x.number) e ∙ rw (found_none at s a e n) in
+      rw (f, nine)
 
 -- nothing is left
 pub count-whole : (s : List ℕ) (at count : ℕ) → at ≤ length s → length s ≤ at → filled_from (length s) 0 s ≡ filled_from (length s - count) at s

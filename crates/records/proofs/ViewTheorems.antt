@@ -19,6 +19,11 @@ by_zero : {P : Type 0} (n : ℕ) → (n ≡ 0 → P) → ((n ≡ 0 → ⊥) → 
 by_zero zero here other = here refl
 by_zero (suc n) here other = other (λ e. omega arith)
 
+-- the records of an array that was found or not
+pub records-part : (i : ℕ) (s part : List ℕ) (found : Array) → found ≡ array_at i s → part ≡ part_at found.start found.len s → part ≡ array_records i s
+unfolding array_records
+records-part i s part found e q = rw (q, e)
+
 -- the view that is put together of what the two calls gave
 pub shows-array : (i : ℕ) (s part : List ℕ) (found : Array) → found ≡ array_at i s → part ≡ part_at found.start found.len s
     → ◌≡◌ {A = Shown} (record { records = part; kind = found.kind; size = found.size; count = found.count }) (viewed i s)

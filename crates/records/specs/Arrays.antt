@@ -6,7 +6,11 @@ use Rattle.fields.specs.BigEndian.{number_at}
 use Rattle.octets.specs.Buffer.{part_at}
 use Rattle.octets.specs.declared.Place.{Place}
 use Rattle.octets.specs.declared.Counted.{Counted}
+use Rattle.octets.specs.Numbers.{number}
+use Rattle.octets.specs.declared.refusal.Refusal.{Refusal}
+use Rattle.std.specs.Prelude.{Result, Ok, Err}
 use Rattle.records.specs.declared.Array.{Array}
+use Rattle.records.specs.declared.FoundArray.{FoundArray}
 
 -- "Header: type (1), record size (2, not zero), number of records (2); then that many records"
 
@@ -91,6 +95,19 @@ array_by number at body =
       start = changed_by number (at + 5) 0;
       len = changed_by number (length_at at body) 0;
     }
+
+-- what the code's calls hand back
+abbrev pub array_of : Result FoundArray Refusal → Array
+array_of (Ok found) =
+    record {
+      number = done;
+      kind = found.kind;
+      size = found.size;
+      count = found.count;
+      start = found.records.start;
+      len = found.records.len;
+    }
+array_of (Err refusal) = record { number = number refusal; kind = 0; size = 0; count = 0; start = 0; len = 0 }
 
 -- what stands at `at`, or 9
 abbrev pub found_at : ℕ → List ℕ → Array
