@@ -179,12 +179,13 @@ module _ (a : Addresses) (trep k : ℕ) (d : List ℕ) (place : Place) (is : pla
   number-of-place : place.number ≡ piece_number (length d) k
   number-of-place = ap (λ (p : Place). p.number) is ∙ place-number (length d) k
 
-  pub sub-refused : (o : List ℕ) (r : ℕ) → r ≡ place.number → (r ≡ 0 → ⊥) →
-      (◌≡◌ {A = Written} (record { number = r; len = 0 }) (sub_result trep k d (length o))) × (o ≡ sub_out a trep k d o)
-  unfolding sub_result sub_out
-  sub-refused o r q z =
-      let e = sub-refused-is trep k d (length o) r (q ∙ number-of-place) z in
-      (written_is r 0 _ _ e (kept_by r _ _ 0 e z), kept_by r _ _ o e z)
+  pub sub-refused : (o : List ℕ) (r : ℕ) → r ≡ place.number → (r ≡ 0 → ⊥) → ◌≡◌ {A = Written} (record { number = r; len = 0 }) (sub_result trep k d (length o))
+  unfolding sub_result
+  sub-refused o r q z = let e = sub-refused-is trep k d (length o) r (q ∙ number-of-place) z in written_is r 0 _ _ e (kept_by r _ _ 0 e z)
+
+  pub sub-kept : (o : List ℕ) (r : ℕ) → r ≡ place.number → (r ≡ 0 → ⊥) → o ≡ sub_out a trep k d o
+  unfolding sub_out
+  sub-kept o r q z = let e = sub-refused-is trep k d (length o) r (q ∙ number-of-place) z in kept_by r _ _ o e z
 
   module _ (z : place.number ≡ 0) (f : List ℕ) (is_field : f ≡ sub_field trep k d) (o o' : List ℕ) (r : Written) where
     written-sub : r ≡ write_result f (length o) → o' ≡ write_out a ends.Tool f o → (r ≡ sub_result trep k d (length o)) × (o' ≡ sub_out a trep k d o)

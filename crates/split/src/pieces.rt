@@ -1,10 +1,11 @@
 // How many sub messages an answer takes, and which of its data bytes each one carries.
 ghost use Rattle.std.specs.Prelude.{◌≡◌};
+ghost use Rattle.octets.specs.Numbers.{judgement, placed, counted};
 ghost use Rattle.split.specs.Split.{is_split, count_of, sub_messages, piece_number, piece_place};
 
 use crate::SubMessage;
-use octets::numbers::{NO_SUCH, OVER_BOUND};
-use octets::{Counted, Place};
+use octets::Part;
+use octets::refusal::Refusal;
 
 // The most data bytes of an answer.
 pub const DATA_MOST: usize = 59998;
@@ -30,63 +31,45 @@ pub fn count_of(len: usize) -> usize
 }
 
 // How many sub messages an answer with `len` data bytes takes; 8 for over 59,998 bytes.
-pub fn sub_messages(len: usize) -> Counted
-    ensures { result ≡ sub_messages len }
+pub fn sub_messages(len: usize) -> Result<usize, Refusal>
+    ensures { counted result ≡ sub_messages len }
 {
     if DATA_MOST < len {
-        return Counted {
-            number: OVER_BOUND,
-            count: 0,
-        };
+        return Err(Refusal::OverBound);
     }
-    Counted {
-        number: 0,
-        count: count_of(len),
-    }
+    Ok(count_of(len))
 }
 
-fn piece_number(len: usize, message: usize) -> u8
-    ensures { result ≡ piece_number len message }
+fn check_piece(len: usize, message: usize) -> Result<(), Refusal>
+    ensures { judgement result ≡ piece_number len message }
 {
     if DATA_MOST < len {
-        return OVER_BOUND;
+        return Err(Refusal::OverBound);
     }
     if message < 1 {
-        return NO_SUCH;
+        return Err(Refusal::NoSuch);
     }
     if count_of(len) < message {
-        return NO_SUCH;
+        return Err(Refusal::NoSuch);
     }
-    0
+    Ok(())
 }
 
 // Which of `len` data bytes the sub message carries: 8, then 10 where there is no such sub message.
-pub fn locate(len: usize, message: SubMessage) -> Place
-    ensures { result ≡ piece_place len message.0 }
+pub fn locate(len: usize, message: SubMessage) -> Result<Part, Refusal>
+    ensures { placed result ≡ piece_place len message.0 }
 {
     let k = message.0 as usize;
-    let refused = piece_number(len, k);
-    if refused != 0 {
-        return octets::refused_place(refused);
-    }
+    check_piece(len, k)?;
     if !is_split(len) {
-        return Place {
-            number: 0,
-            start: 0,
-            len,
-        };
+        return Ok(Part { start: 0, len });
     }
     let start = (k - 1) * PIECE;
     if len - start < PIECE {
-        return Place {
-            number: 0,
+        return Ok(Part {
             start,
             len: len - start,
-        };
+        });
     }
-    Place {
-        number: 0,
-        start,
-        len: PIECE,
-    }
+    Ok(Part { start, len: PIECE })
 }

@@ -1,10 +1,11 @@
 // Writing one sub message as a frame to the tool, for any two addresses.
 ghost use Rattle.std.specs.Prelude.{◌≡◌, length};
+ghost use Rattle.octets.specs.Numbers.{written};
 ghost use Rattle.split.specs.Split.{sub_result, sub_out};
 
 use crate::SubMessage;
 use frame::{Addresses, End};
-use octets::Written;
+use octets::refusal::Refusal;
 use octets::wire::ANSWER;
 
 // Writes sub message `message` of the answer with this TREP and data at the front of `out`; an unsplit answer is its
@@ -15,29 +16,16 @@ pub fn write_sub_message(
     trep: u8,
     message: SubMessage,
     out: &mut [u8],
-) -> Written
-    ensures value { result ≡ sub_result trep message.0 «data».now (length out.old) }
+) -> Result<usize, Refusal>
+    ensures value { written result ≡ sub_result trep message.0 «data».now (length out.old) }
     ensures out_after { out.new ≡ sub_out addresses trep message.0 «data».now out.old }
 {
-    let place = crate::pieces::locate(data.len(), message);
-    let refused = place.number;
-    if refused != 0 {
-        return Written {
-            number: refused,
-            len: 0,
-        };
-    }
+    let piece = crate::pieces::locate(data.len(), message)?;
     if !crate::pieces::is_split(data.len()) {
         let header = [ANSWER, trep];
         return frame::write::write_two(addresses, &header, data, End::Tool, out);
     }
     let k = message.0;
     let header = [ANSWER, trep, (k / 256 % 256) as u8, (k % 256) as u8];
-    frame::write::write_two(
-        addresses,
-        &header,
-        octets::buffer::part(data, place),
-        End::Tool,
-        out,
-    )
+    frame::write::write_two(addresses, &header, piece.of(data), End::Tool, out)
 }

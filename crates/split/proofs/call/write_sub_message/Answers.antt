@@ -6,13 +6,13 @@ use Rattle.split.proofs.call.write_sub_message.Goals as goal
 
 ruleset all = (rules, given)
 
-pub returns-then-addresses-clause-value : goal.returns-then-addresses-clause-value
+pub returns-in_err-differ-clause-value : goal.returns-in_err-differ-clause-value
 unfolding sub_result_given sub_out_given
-returns-then-addresses-clause-value c = search all
+returns-in_err-differ-clause-value c = search all
 
-pub returns-then-addresses-clause-out_after : goal.returns-then-addresses-clause-out_after
+pub returns-in_err-differ-clause-out_after : goal.returns-in_err-differ-clause-out_after
 unfolding sub_result_given sub_out_given
-returns-then-addresses-clause-out_after c = search all
+returns-in_err-differ-clause-out_after c = search all
 
 pub returns-clause-value : goal.returns-clause-value
 unfolding sub_result_given sub_out_given

@@ -1,12 +1,13 @@
 -- Refused, one frame, a last or a full sub message.
+use Rattle.octets.proofs.CallLaws.{refused-number}
 use Rattle.split.proofs.SplitLaws.{single-length, split-length, place_none, place-one, place-last, place-full, piece-first, piece-start}
 use Rattle.std.proofs.Common.{rules}
 use Rattle.split.proofs.pieces.locate.Goals as goal
 
-ruleset all = (rules, single-length, split-length, place_none, place-one, place-last, place-full, piece-first, piece-start)
+ruleset all = (rules, single-length, split-length, place_none, place-one, place-last, place-full, piece-first, piece-start, refused-number)
 
-pub returns-then-refused-ne0 : goal.returns-then-refused-ne0
-returns-then-refused-ne0 c = search all
+pub returns-in_err-check_piece : goal.returns-in_err-check_piece
+returns-in_err-check_piece c = search all
 
 pub returns-then-not-is_split : goal.returns-then-not-is_split
 returns-then-not-is_split c = search all

@@ -1,7 +1,7 @@
 -- Each return is the first check that fails.
 use Rattle.split.proofs.SplitLaws.{number-long, number-zero, number_past, number-such}
 use Rattle.std.proofs.Common.{rules}
-use Rattle.split.proofs.pieces.piece_number.Goals as goal
+use Rattle.split.proofs.pieces.check_piece.Goals as goal
 
 ruleset all = (rules, number-long, number-zero, number_past, number-such)
 
