@@ -21,7 +21,7 @@ use Rattle.fields.proofs.FieldLaws.{number_put, numbers-put}
 use Rattle.store.specs.Layout.{Form, Sized, header_size, entry_size, entries_size, answers, stream_length, stream_start, store_length, stream_of}
 use Rattle.store.specs.Check.{store_number}
 use Rattle.store.specs.Read.{position, is_held, lookup_number, lookup_place, lookup_both}
-use Rattle.store.specs.declared.TwoPlaces.{TwoPlaces}
+use Rattle.store.specs.Read.{TwoPlaces}
 use Rattle.store.proofs.StoreLaws.{lookup-zero}
 use Rattle.store.proofs.StoreLaws as stores
 use Rattle.catalog.specs.Name.{rounded}

@@ -3,14 +3,14 @@
 
 ghost use Rattle.std.specs.Prelude.{◌≡◌, ◌++◌, ◌+◌, ◌≤◌, ◌<◌, length};
 ghost use Rattle.fields.specs.BigEndian.{bytes_of};
+ghost use Rattle.octets.specs.Numbers.{judgement, written};
 ghost use Rattle.octets.specs.Buffer.{front, put};
 ghost use Rattle.store.specs.Layout.{narrow, header_size, entry_size, answers, stream_length, store_length};
 ghost use Rattle.store.specs.Answer.{name_of};
 ghost use Rattle.append.specs.Append.{room_number, append_number, with_answer, append_result, append_out};
 
 use catalog::{AnswerName, NO_ANSWER};
-use octets::Written;
-use octets::numbers::{ALREADY_HELD, BUFFER_SHORT, OVER_BOUND};
+use octets::refusal::Refusal;
 use store::layout::{DAY, ENTRY, FIELD};
 use store::{ANSWERS_MOST, STREAM_MOST};
 
@@ -24,41 +24,33 @@ fn name_of(answer: &[u8], day: u32) -> AnswerName
     }
 }
 
-fn room_number(store: &[u8], answer: &[u8]) -> u8
-    ensures { result ≡ room_number narrow (length answer.now) store.now }
+fn check_room(store: &[u8], answer: &[u8]) -> Result<(), Refusal>
+    ensures { judgement result ≡ room_number narrow (length answer.now) store.now }
 {
     let len = answer.len();
     let t = store::layout::stream_length(store);
     if ANSWERS_MOST < store::layout::answers(store) + 1 {
-        return OVER_BOUND;
+        return Err(Refusal::OverBound);
     }
     if STREAM_MOST < t + len {
-        return OVER_BOUND;
+        return Err(Refusal::OverBound);
     }
     if store.len() < store::layout::stream_start(store) + t + ENTRY + len {
-        return BUFFER_SHORT;
+        return Err(Refusal::BufferShort);
     }
-    0
+    Ok(())
 }
 
 // The numbers in order; the store is checked once, for itself and for the search of the name.
-fn append_number(store: &[u8], answer: &[u8], day: u32) -> u8
-    ensures { result ≡ append_number narrow answer.now day store.now }
+fn check_append(store: &[u8], answer: &[u8], day: u32) -> Result<(), Refusal>
+    ensures { judgement result ≡ append_number narrow answer.now day store.now }
 {
-    let found = store::read::locate_both(store, name_of(answer, day), NO_ANSWER);
-    let broken = found.number;
-    if broken != 0 {
-        return broken;
+    let found = store::read::locate_both(store, name_of(answer, day), NO_ANSWER)?;
+    store::answer::check_answer(answer, day)?;
+    if found.first.is_some() {
+        return Err(Refusal::AlreadyHeld);
     }
-    let unlisted = store::answer::answer_number(answer, day);
-    if unlisted != 0 {
-        return unlisted;
-    }
-    let held = found.first;
-    if held.number == 0 {
-        return ALREADY_HELD;
-    }
-    room_number(store, answer)
+    check_room(store, answer)
 }
 
 fn write_header(store: &mut [u8], count: u32, stream: u32)
@@ -104,21 +96,15 @@ fn put_last(store: &mut [u8], answer: &[u8], day: u32)
 }
 
 // Puts the answer, 76 and TREP included, last in the store, under its TREP and, for activities, the first second of the
-// day that `day` falls in. `len` is the store's new length.
+// day that `day` falls in, and gives the store's new length.
 // Refused by the number of a broken store, 12, 7, 8 and 4, in this order; then the buffer is as it was.
-pub fn append(store: &mut [u8], answer: &[u8], day: u32) -> Written
-    ensures value { result ≡ append_result narrow answer.now day store.old }
+pub fn append(store: &mut [u8], answer: &[u8], day: u32) -> Result<usize, Refusal>
+    ensures value { written result ≡ append_result narrow answer.now day store.old }
     ensures store_after { store.new ≡ append_out narrow answer.now day store.old }
 {
-    let number = append_number(store, answer, day);
-    if number != 0 {
-        return Written { number, len: 0 };
-    }
+    check_append(store, answer, day)?;
     let old = store::layout::stream_start(store) + store::layout::stream_length(store);
     let kept = catalog::rounded(name_of(answer, day));
     put_last(store, answer, kept.day);
-    Written {
-        number: 0,
-        len: old + ENTRY + answer.len(),
-    }
+    Ok(old + ENTRY + answer.len())
 }

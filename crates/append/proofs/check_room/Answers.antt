@@ -2,7 +2,7 @@
 use Rattle.append.proofs.AppendLaws.{room-count, room-stream, room-short, room-some}
 use Rattle.store.specs.Layout.{header_size, entry_size, entries_size}
 use Rattle.std.proofs.Common.{rules}
-use Rattle.append.proofs.room_number.Goals as goal
+use Rattle.append.proofs.check_room.Goals as goal
 
 ruleset all = (rules, room-count, room-stream, room-short, room-some)
 
