@@ -2,7 +2,7 @@
 use Prim.Native.Nat.{ℕ}
 use mathlib.Core.Bool.{Bool, true, false}
 use mathlib.Core.List.{List}
-use mathlib.Core.Path.{◌≡◌}
+use mathlib.Core.Path.{◌≡◌, sym}
 use lib.Dec.{eqb}
 use lib.ListN.{length, get_or}
 use borrow.Author.Tests.{eq-eqb, ne_eqb}
@@ -10,13 +10,19 @@ use Rattle.octets.specs.Buffer.{same_bytes}
 use Rattle.octets.specs.declared.Place.{Place}
 use Rattle.frame.specs.declared.Addresses.{Addresses}
 use Rattle.frame.specs.declared.End.TheVariants as ends
-use Rattle.frame.specs.Frame.{data_place, data_of}
+use Rattle.frame.specs.Frame.{judged, data_place, data_of}
 use Rattle.frame.proofs.CheckLaws.{place-number}
 use Rattle.split.specs.Join.{received_as}
 use Rattle.split.specs.declared.Received.{Received}
 use Rattle.progress.specs.declared.Request.{Request}
 use Rattle.progress.specs.declared.ToolState.{ToolState}
-use Rattle.arrival.specs.declared.Arrival.{Arrival}
+use Rattle.std.specs.Prelude.{Result, Ok, Err}
+use Rattle.octets.specs.Buffer.{part_at}
+use Rattle.octets.specs.Numbers.{number, placed}
+use Rattle.octets.specs.declared.Part.{Part}
+use Rattle.octets.specs.declared.refusal.Refusal.{Refusal}
+use Rattle.octets.proofs.CallLaws.{part_of, refused-number}
+use Rattle.arrival.specs.Meaning.{Incoming}
 use Rattle.arrival.specs.declared.Meaning.{Meaning}
 use Rattle.arrival.specs.declared.Meaning.TheVariants.{Ignored, FailedWait, Confirmed}
 use Rattle.progress.specs.State.{is_transfer}
@@ -75,24 +81,33 @@ module _ (room_len : ℕ) (t : ToolState) (d : List ℕ) where
     unfolding data_meaning
     data-other f s = rw (h, f, s)
 
--- A string b that arrives: its data d lies at the place p, is x of the answer and adds n bytes
+-- A string b that arrives: its data d lies where l says, is x of the answer and adds n bytes
 
-module _ (a : Addresses) (room_len : ℕ) (t : ToolState) (b d : List ℕ) (p : Place) (x : Received) (n : ℕ) (located : p ≡ data_place a ends.Tool b)
-    (data_is : d ≡ data_of a ends.Tool b)
+module _ (a : Addresses) (room_len : ℕ) (t : ToolState) (b d : List ℕ) (l : Result Part Refusal) (x : Received) (n : ℕ)
+    (located : placed l ≡ data_place a ends.Tool b)
+    (read : d ≡ part_at (placed l).start (placed l).len b)
     (received : x ≡ received_as t.name.trep t.expected.0 d) (adds : n ≡ length (new_bytes t x d)) where
+  data_is : d ≡ data_of a ends.Tool b
+  unfolding data_of
+  data_is = part_of (placed l) (data_place a ends.Tool b) b d located read
+
   arrives : (m : Meaning) → m ≡ arrival_meaning a room_len t b
-      → ◌≡◌ {A = Arrival} (record { place = p; received = x; new = n; meaning = m }) (arrival_of a room_len t b)
+      → ◌≡◌ {A = Incoming} (record { place = placed l; received = x; new = n; meaning = m }) (arrival_of a room_len t b)
   unfolding arrival_of arrival_bytes
   arrives m e = rw (← located, ← data_is, ← received, ← adds, ← e)
 
-  pub arrival-refused : (p.number ≡ 0 → ⊥) → ◌≡◌ {A = Arrival} (record { place = p; received = x; new = n; meaning = FailedWait }) (arrival_of a room_len t b)
-  unfolding arrival_meaning
-  arrival-refused h = arrives FailedWait (rw (← place-number a ends.Tool b p located, ne_eqb p.number 0 h))
+  number-is : judged a ends.Tool b ≡ (placed l).number
+  number-is = sym (place-number a ends.Tool b (placed l) located)
 
-  pub arrival-good : (m : Meaning) → p.number ≡ 0 → m ≡ data_meaning room_len t d
-      → ◌≡◌ {A = Arrival} (record { place = p; received = x; new = n; meaning = m }) (arrival_of a room_len t b)
+  pub arrival-refused : (refusal : Refusal) → l ≡ Err refusal
+      → ◌≡◌ {A = Incoming} (record { place = placed l; received = x; new = n; meaning = FailedWait }) (arrival_of a room_len t b)
   unfolding arrival_meaning
-  arrival-good m h e = arrives m (rw (← place-number a ends.Tool b p located, h, ← data_is) e)
+  arrival-refused refusal h = arrives FailedWait (rw (number-is, h, ne_eqb (number refusal) 0 (refused-number refusal)))
+
+  pub arrival-good : (m : Meaning) (part : Part) → l ≡ Ok part → m ≡ data_meaning room_len t d
+      → ◌≡◌ {A = Incoming} (record { place = placed l; received = x; new = n; meaning = m }) (arrival_of a room_len t b)
+  unfolding arrival_meaning
+  arrival-good m part h e = arrives m (rw (number-is, h, ← data_is) e)
 
 -- what is taken, by the meaning that the code matched
 pub takes_at : (m m' : Meaning) (r : Bool) → m ≡ m' → r ≡ takes m' → r ≡ takes m

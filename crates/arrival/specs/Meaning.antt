@@ -10,6 +10,8 @@ use Rattle.split.specs.declared.Received.{Received}
 use Rattle.split.specs.declared.Received.TheVariants.{Whole, Full, Last, Above, Other}
 use Rattle.progress.specs.declared.ToolState.{ToolState}
 use Rattle.arrival.specs.declared.Meaning.{Meaning}
+use Rattle.octets.specs.Numbers.{placed}
+use Rattle.octets.specs.declared.Place.{Place}
 use Rattle.arrival.specs.declared.Arrival.{Arrival}
 use Rattle.arrival.specs.declared.Meaning.TheVariants.{Ignored, FailedWait, Confirmed, WholeAnswer}
 use Rattle.arrival.specs.declared.Meaning.TheVariants.{SubMessageTaken, LastTaken, NoRoomForAnswer}
@@ -83,7 +85,17 @@ arrival_bytes a t b = new_bytes t (received_by t (data_of a ends.Tool b)) (data_
 
 -- all that a call needs of it: where its data lies, what that is of the answer, how many bytes it adds to those held
 -- where it is taken, what it means
-unfoldable pub arrival_of : Addresses → ℕ → ToolState → List ℕ → Arrival
+pub record Incoming : Type 0 where
+  pub place : Place
+  pub received : Received
+  pub new : ℕ
+  pub meaning : Meaning
+
+-- the same as the code has it
+abbrev pub shown : Arrival → Incoming
+shown x = record { place = placed x.data; received = x.received; new = x.new; meaning = x.meaning }
+
+unfoldable pub arrival_of : Addresses → ℕ → ToolState → List ℕ → Incoming
 arrival_of a room_len t b =
     record {
       place = data_place a ends.Tool b;

@@ -1,7 +1,7 @@
 // What a string that arrives means to a waiting tool.
 ghost use Rattle.std.specs.Prelude.{◌≡◌, cond, length};
 ghost use Rattle.arrival.specs.Meaning.{new_bytes, received_by, meaning_of, takes};
-ghost use Rattle.arrival.specs.Meaning.{is_refusal, refusal_meaning, data_meaning, arrival_of};
+ghost use Rattle.arrival.specs.Meaning.{is_refusal, refusal_meaning, data_meaning, arrival_of, shown};
 
 use crate::{Arrival, Meaning};
 use frame::{Addresses, End};
@@ -99,27 +99,21 @@ pub fn takes(meaning: Meaning) -> bool
 // A string that arrives, with a room of this length, for any two addresses: it is judged once.
 // One that the frame rules refuse is a failed wait.
 pub fn arrival_of(addresses: Addresses, state: ToolState, frame: &[u8], room_len: usize) -> Arrival
-    ensures { result ≡ arrival_of addresses room_len state frame.now }
+    ensures { shown result ≡ arrival_of addresses room_len state frame.now }
 {
     let expected = state.expected;
-    let place = frame::check::locate(addresses, frame, End::Tool);
-    let start = place.start;
-    let end = start + place.len;
-    let data = &frame[start..end];
+    let located = frame::check::locate(addresses, frame, End::Tool);
+    let data = octets::buffer::found(frame, located);
     let received = split::join::receive(data, state.name.trep, expected);
     let new = crate::room::new_length(state, received, data);
-    if place.number != 0 {
-        return Arrival {
-            place,
-            received,
-            new,
-            meaning: Meaning::FailedWait,
-        };
-    }
+    let meaning = match located {
+        Ok(_) => data_meaning(state, data, received, new, room_len),
+        Err(_) => Meaning::FailedWait,
+    };
     Arrival {
-        place,
+        data: located,
         received,
         new,
-        meaning: data_meaning(state, data, received, new, room_len),
+        meaning,
     }
 }

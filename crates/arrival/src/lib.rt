@@ -1,7 +1,8 @@
 // What a string that arrives means to the download tool (document 01, The tool).
 #![tactic(auto)]
 
-use octets::Place;
+use octets::Part;
+use octets::refusal::Refusal;
 use split::Received;
 
 pub mod event;
@@ -9,7 +10,7 @@ mod reply;
 pub mod room;
 
 // What an event means to a waiting tool.
-#[derive(Clone, Copy)]
+#[derive(Clone, Copy, Debug, PartialEq, Eq)]
 pub enum Meaning {
     Ignored,
     // a wait's end, a frame refused by the frame rules, or a number above the one expected
@@ -32,9 +33,9 @@ pub enum Meaning {
 
 // A string that arrives: where its data lies, what that is of the answer, how many bytes it adds to those held where it
 // is taken, and what it means.
-#[derive(Clone, Copy)]
+#[derive(Clone, Copy, Debug, PartialEq, Eq)]
 pub struct Arrival {
-    pub place: Place,
+    pub data: Result<Part, Refusal>,
     pub received: Received,
     pub new: usize,
     pub meaning: Meaning,

@@ -20,7 +20,7 @@ use Rattle.progress.specs.declared.Request.{Request}
 use Rattle.progress.specs.declared.ToolState.{ToolState}
 use Rattle.arrival.specs.declared.Meaning.TheVariants.{FailedWait}
 use Rattle.arrival.specs.Meaning.{arrival_meaning}
-use Rattle.tool.specs.declared.ToolStep.{ToolStep}
+use Rattle.tool.specs.Call.{ToolStep}
 use Rattle.tool.specs.Call.{begin_number, begin_state, begin_sent, begin_result, begin_out, event_sent, event_result, event_out}
 use Rattle.tool.specs.Call.{begin_result_given, begin_out_given, arrival_result_given, arrival_out_given, wait_result_given, wait_out_given}
 use Rattle.tool.specs.Call.{event_result_given, event_out_given}

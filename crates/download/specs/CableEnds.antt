@@ -21,7 +21,7 @@ use Rattle.progress.specs.declared.Request.{Request}
 use Rattle.progress.specs.declared.ToolState.{ToolState}
 use Rattle.arrival.specs.declared.Meaning.TheVariants.{FailedWait}
 use Rattle.arrival.specs.Meaning.{arrival_meaning}
-use Rattle.tool.specs.declared.ToolStep.{ToolStep}
+use Rattle.tool.specs.Call.{ToolStep}
 use Rattle.tool.specs.Call.{begin_sent, event_sent, begin_result_given, arrival_result_given, arrival_room_given}
 use Rattle.tool.specs.Call.{wait_result_given}
 use Rattle.line.specs.Line.{Result, Ends, End, unit_end, tool_end}

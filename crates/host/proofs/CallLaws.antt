@@ -27,7 +27,7 @@ use Rattle.unit.specs.Call.{number_before, unit_number, unit_result, unit_result
 use Rattle.progress.specs.declared.Request.{Request}
 use Rattle.arrival.specs.declared.Meaning.{Meaning}
 use Rattle.progress.specs.declared.ToolState.{ToolState}
-use Rattle.tool.specs.declared.ToolStep.{ToolStep}
+use Rattle.tool.specs.Call.{ToolStep}
 use Rattle.progress.specs.State as tool-state
 use Rattle.tool.specs.Call.{request_number, begin_number, begin_result, begin_result_given, begin_out_given, event_number, event_result}
 use Rattle.tool.specs.Call.{arrival_result_given, arrival_room_given, arrival_out_given, wait_result_given, wait_out_given}

@@ -26,7 +26,7 @@ use Rattle.store.proofs.Refusals.{fault-first, store-not-five}
 use Rattle.unit.specs.State.{possible}
 use Rattle.unit.specs.Call.{number_before, unit_number, unit_reply, unit_result, unit_out, unit_result_given, unit_out_given}
 use Rattle.arrival.specs.declared.Meaning.{Meaning}
-use Rattle.tool.specs.declared.ToolStep.{ToolStep}
+use Rattle.tool.specs.Call.{ToolStep}
 use Rattle.tool.specs.Call.{request_number, begin_number, begin_sent, begin_result, begin_out, event_number, event_sent, event_room, event_result, event_out, refused_tool}
 use Rattle.states.specs.Packed.{is_unit, unpacked_unit, request_from, is_tool, unpacked_tool}
 use Rattle.host.specs.Calls.{unit_fresh_number, unit_fresh_state, unit_handed, unit_kept, unit_step, unit_step_reply}

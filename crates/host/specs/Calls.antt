@@ -12,7 +12,7 @@ use Rattle.catalog.specs.declared.AnswerName.{AnswerName}
 use Rattle.unit.specs.declared.UnitReply.{UnitReply}
 use Rattle.services.specs.State.{fresh_unit}
 use Rattle.unit.specs.Call.{unit_result_given, unit_out_given}
-use Rattle.tool.specs.declared.ToolStep.{ToolStep}
+use Rattle.tool.specs.Call.{ToolStep}
 use Rattle.progress.specs.State.{fresh_tool}
 use Rattle.tool.specs.Call.{refused_tool, begin_result, begin_out, arrival_result_given, arrival_room_given}
 use Rattle.tool.specs.Call.{arrival_out_given, wait_result_given, wait_out_given}

@@ -1,10 +1,11 @@
 -- What a call hands back, from its number: the laws that the proofs of all calls cite at their returns.
 use native.Mathlib.Omega.{arith}
-use Rattle.std.proofs.Common.{◌≡◌, ℕ, false, eqb, List, sym, ◌∙◌, ne_eqb}
+use Rattle.std.proofs.Common.{◌≡◌, refl, ℕ, Bool, true, false, eqb, List, sym, ◌∙◌, ne_eqb}
 use Rattle.octets.specs.Buffer.{part_at}
 use Rattle.octets.specs.declared.refusal.Refusal.{Refusal}
 use Rattle.octets.specs.declared.refusal.Refusal.TheVariants as refusals
-use Rattle.octets.specs.Numbers.{number, changed_by, written_by, place_by, refused_place, counted_by}
+use Rattle.std.specs.Prelude.{Result, Ok, Err, is_err, ⊤}
+use Rattle.octets.specs.Numbers.{number, judgement, changed_by, written_by, place_by, refused_place, counted_by}
 use Rattle.octets.specs.declared.Written.{Written}
 use Rattle.octets.specs.declared.Place.{Place}
 use Rattle.octets.specs.declared.Counted.{Counted}
@@ -68,3 +69,12 @@ refused-number refusals.StoreBounds e = omega arith
 refused-number refusals.StoreEntry e = omega arith
 refused-number refusals.StoreAnswer e = omega arith
 refused-number refusals.StoreTwice e = omega arith
+
+-- a judgement that the code asked for an error: t is the answer
+pub judged-refused : (judged : Result ⊤ Refusal) (t : Bool) → t ≡ is_err judged → t ≡ true → judgement judged ≡ 0 → ⊥
+judged-refused (Ok x) t e h z = absurd (let w : false ≡ true = sym e ∙ h in cc)
+judged-refused (Err refusal) t e h z = refused-number refusal z
+
+pub judged-done : (judged : Result ⊤ Refusal) (t : Bool) → t ≡ is_err judged → t ≡ false → judgement judged ≡ 0
+judged-done (Ok x) t e h = refl
+judged-done (Err refusal) t e h = absurd (let w : true ≡ false = sym e ∙ h in cc)

@@ -20,7 +20,7 @@ use Rattle.unit.proofs.BoundLaws as units
 use Rattle.progress.specs.declared.ToolState.{ToolState}
 use Rattle.arrival.specs.declared.Meaning.{Meaning}
 use Rattle.progress.specs.State.{fresh_tool}
-use Rattle.tool.specs.declared.ToolStep.{ToolStep}
+use Rattle.tool.specs.Call.{ToolStep}
 use Rattle.tool.specs.Call.{begun, begin_number, begin_state, begin_result, event_result, refused_tool, begin_result_given}
 use Rattle.tool.specs.Call.{event_result_given}
 use Rattle.tool.proofs.BoundLaws as tools

@@ -14,7 +14,7 @@ use Rattle.octets.specs.declared.Written.{Written}
 use Rattle.frame.specs.declared.Addresses.{Addresses}
 use Rattle.catalog.specs.declared.AnswerName.{AnswerName}
 use Rattle.unit.specs.declared.UnitReply.{UnitReply}
-use Rattle.tool.specs.declared.ToolStep.{ToolStep}
+use Rattle.tool.specs.Call.{ToolStep}
 use Rattle.host.specs.Calls as calls
 use Rattle.host.specs.Calls.{unit_handed, unit_kept, unit_step, unit_step_reply, tool_handed, tool_kept, tool_begin}
 use Rattle.host.specs.Calls.{tool_begin_out, tool_arrival_room, tool_arrival_out, tool_wait, tool_wait_out}

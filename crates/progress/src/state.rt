@@ -69,7 +69,7 @@ fn transfer_possible(state: ToolState, room_len: usize) -> bool
 {
     let name = state.name;
     let held = state.held as usize;
-    if catalog::name_number(name) != 0 {
+    if catalog::check_name(name).is_err() {
         return false;
     }
     if !held_right(state.expected.0 as usize, held) {

@@ -1,5 +1,6 @@
 // The frames that the tool sends, for any two addresses.
 ghost use Rattle.std.specs.Prelude.{◌≡◌, ◌-◌, ◌≤◌, length};
+ghost use Rattle.octets.specs.Numbers.{written};
 ghost use Rattle.frame.specs.Frame.{frame_of, send_result, send_out};
 ghost use Rattle.frame.specs.declared.End.TheVariants as ends;
 ghost use Rattle.split.specs.Codes.{sub};
@@ -8,16 +9,16 @@ ghost use Rattle.requests.specs.Sent.{transfer_request, acknowledgement, transfe
 use catalog::AnswerName;
 use frame::messages::{EXIT, SESSION, STOP, UPLOAD};
 use frame::{Addresses, End};
-use octets::Written;
+use octets::refusal::Refusal;
 use octets::wire::{ACKNOWLEDGE, ANSWER, TRANSFER_DATA};
 use progress::Request;
 use split::{AckCode, SubMessage};
 
 // Each writer puts its frame at the front of `out`; 4 where `out` is shorter.
-fn write_data(addresses: Addresses, data: &[u8], out: &mut [u8]) -> Written
+fn write_data(addresses: Addresses, data: &[u8], out: &mut [u8]) -> Result<usize, Refusal>
     requires in_bounds { 1 ≤ length «data».now }
     requires data_len_bound { length «data».now ≤ 255 }
-    ensures value { result ≡ send_result (frame_of addresses ends.Unit «data».now) (length out.old) }
+    ensures value { written result ≡ send_result (frame_of addresses ends.Unit «data».now) (length out.old) }
     ensures out_after { out.new ≡
         send_out (frame_of addresses ends.Unit «data».now) out.old }
 {
@@ -25,8 +26,12 @@ fn write_data(addresses: Addresses, data: &[u8], out: &mut [u8]) -> Written
 }
 
 // 36, the TRTP and, for activities, the second of the day as it was given.
-fn write_transfer_request(addresses: Addresses, name: AnswerName, out: &mut [u8]) -> Written
-    ensures value { result ≡ send_result (frame_of addresses ends.Unit (transfer_request name)) (length out.old) }
+fn write_transfer_request(
+    addresses: Addresses,
+    name: AnswerName,
+    out: &mut [u8],
+) -> Result<usize, Refusal>
+    ensures value { written result ≡ send_result (frame_of addresses ends.Unit (transfer_request name)) (length out.old) }
     ensures out_after { out.new ≡
         send_out (frame_of addresses ends.Unit (transfer_request name)) out.old }
 {
@@ -47,8 +52,12 @@ fn write_transfer_request(addresses: Addresses, name: AnswerName, out: &mut [u8]
 }
 
 // 83 76 and a code (DDP_017).
-pub fn write_acknowledgement(addresses: Addresses, code: AckCode, out: &mut [u8]) -> Written
-    ensures value { result ≡ send_result (frame_of addresses ends.Unit (acknowledgement code)) (length out.old) }
+pub fn write_acknowledgement(
+    addresses: Addresses,
+    code: AckCode,
+    out: &mut [u8],
+) -> Result<usize, Refusal>
+    ensures value { written result ≡ send_result (frame_of addresses ends.Unit (acknowledgement code)) (length out.old) }
     ensures out_after { out.new ≡
         send_out (frame_of addresses ends.Unit (acknowledgement code)) out.old }
 {
@@ -74,8 +83,8 @@ fn write_transfer(
     name: AnswerName,
     expected: SubMessage,
     out: &mut [u8],
-) -> Written
-    ensures value { result ≡
+) -> Result<usize, Refusal>
+    ensures value { written result ≡
         send_result (frame_of addresses ends.Unit (transfer_data name expected.0)) (length out.old) }
     ensures out_after { out.new ≡
         send_out (frame_of addresses ends.Unit (transfer_data name expected.0)) out.old }
@@ -93,8 +102,8 @@ pub fn write_request(
     name: AnswerName,
     expected: SubMessage,
     out: &mut [u8],
-) -> Written
-    ensures value { result ≡ send_result (frame_sent addresses request name expected.0) (length out.old) }
+) -> Result<usize, Refusal>
+    ensures value { written result ≡ send_result (frame_sent addresses request name expected.0) (length out.old) }
     ensures out_after { out.new ≡ send_out (frame_sent addresses request name expected.0) out.old }
 {
     match request {

@@ -42,9 +42,9 @@ two_places (Ok parts) = record { number = done; first = held_place parts.first; 
 two_places (Err refusal) =
     record { number = number refusal; first = refused_place (number refusal); second = refused_place (number refusal) }
 
-abbrev pub held_of : Result HeldAnswer Refusal → Held
-held_of (Ok held) = record { number = done; name = held.name; start = held.part.start; len = held.part.len }
-held_of (Err refusal) = record { number = number refusal; name = zero_name; start = 0; len = 0 }
+abbrev pub held_given : Result HeldAnswer Refusal → Held
+held_given (Ok held) = record { number = done; name = held.name; start = held.part.start; len = held.part.len }
+held_given (Err refusal) = record { number = number refusal; name = zero_name; start = 0; len = 0 }
 
 module _ (f : Form) where
   -- the answer with that name, from 0; the count of answers where none has it

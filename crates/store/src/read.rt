@@ -3,7 +3,7 @@ ghost use Rattle.std.specs.Prelude.{◌≡◌};
 ghost use Rattle.octets.specs.Numbers.{placed, counted};
 ghost use Rattle.store.specs.Layout.{narrow};
 ghost use Rattle.store.specs.Check.{store_number};
-ghost use Rattle.store.specs.Read.{held_place, two_places, held_of, lookup_place, lookup_both, lookup_part, stream_place};
+ghost use Rattle.store.specs.Read.{held_place, two_places, held_given, lookup_place, lookup_both, lookup_part, stream_place};
 ghost use Rattle.store.specs.Read.{stream_part, count_held, held_answer};
 
 use crate::{HeldAnswer, TwoParts};
@@ -86,7 +86,7 @@ pub fn count(store: &[u8]) -> Result<usize, Refusal>
 
 // Answer `k`, from 0: the number of a broken store, 6 where it holds no more than `k`.
 pub fn held(store: &[u8], k: usize) -> Result<HeldAnswer, Refusal>
-    ensures { held_of result ≡ held_answer narrow k store.now }
+    ensures { held_given result ≡ held_answer narrow k store.now }
 {
     crate::check::check(store)?;
     if crate::layout::answers(store) <= k {

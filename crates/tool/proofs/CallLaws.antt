@@ -8,9 +8,9 @@ use lib.Dec.{leb}
 use lib.ListN.{length}
 use borrow.Author.Tests.{le-leb, lt-leb, eq-eqb, ne_eqb, leb-true}
 use Rattle.octets.specs.Numbers.{changed_by}
-use Rattle.octets.specs.Buffer.{front}
+use Rattle.octets.specs.Buffer.{front, part_at}
 use Rattle.octets.proofs.OrderLaws.{unless-is, or-zero}
-use Rattle.octets.proofs.CallLaws.{kept_by, changed-by}
+use Rattle.octets.proofs.CallLaws.{kept_by, changed-by, part_of}
 use Rattle.octets.proofs.Tests.{and_left, and_right}
 use Rattle.frame.specs.declared.Addresses.{Addresses}
 use Rattle.frame.specs.declared.End.TheVariants as ends
@@ -20,9 +20,9 @@ use Rattle.catalog.specs.Name.{name_number}
 use Rattle.catalog.specs.declared.AnswerName.{AnswerName}
 use Rattle.progress.specs.declared.Request.{Request}
 use Rattle.progress.specs.declared.ToolState.{ToolState}
-use Rattle.tool.specs.declared.ToolStep.{ToolStep}
+use Rattle.tool.specs.Call.{ToolStep}
 use Rattle.arrival.specs.declared.Meaning.{Meaning}
-use Rattle.arrival.specs.declared.Arrival.{Arrival}
+use Rattle.arrival.specs.Meaning.{Incoming}
 use Rattle.progress.specs.State.{held_most, is_transfer, is_waiting, possible}
 use Rattle.arrival.specs.Meaning.{new_bytes, arrival_bytes, arrival_of}
 use Rattle.arrival.specs.Meaning.{takes}
@@ -128,7 +128,7 @@ step-next t m room_len out_len r f e z k =
     omega (arith, w.expected_most)
 
 -- An arrival x: what the step needs of it, and what the step gives
-module _ (a : Addresses) (t : ToolState) (b : List ℕ) (room_len : ℕ) (x : Arrival) (is : x ≡ arrival_of a room_len t b) where
+module _ (a : Addresses) (t : ToolState) (b : List ℕ) (room_len : ℕ) (x : Incoming) (is : x ≡ arrival_of a room_len t b) where
   taken-by : takes x.meaning ≡ true → Taken room_len t (length (arrival_bytes a t b))
   unfolding arrival_of
   taken-by k = taken a room_len t b (rw is at k)
@@ -142,15 +142,16 @@ module _ (a : Addresses) (t : ToolState) (b : List ℕ) (room_len : ℕ) (x : Ar
 
   pub arrival-result : (out_len : ℕ) (r : ToolStep) → r ≡ event_result_given a t x.meaning x.new room_len out_len → r ≡ arrival_result_given a t b room_len out_len
   unfolding arrival_of
-  arrival-result out_len r e = e ∙ ap (λ (y : Arrival). event_result_given a t y.meaning y.new room_len out_len) is
+  arrival-result out_len r e = e ∙ ap (λ (y : Incoming). event_result_given a t y.meaning y.new room_len out_len) is
 
   pub arrival-out : (o o' : List ℕ) → o' ≡ event_out_given a t x.meaning room_len o → o' ≡ arrival_out_given a t b room_len o
   unfolding arrival_of
-  arrival-out o o' e = e ∙ ap (λ (y : Arrival). event_out_given a t y.meaning room_len o) is
+  arrival-out o o' e = e ∙ ap (λ (y : Incoming). event_out_given a t y.meaning room_len o) is
 
-  pub arrival-place : x.place ≡ data_place a ends.Tool b
-  unfolding arrival_of
-  arrival-place = ap (λ (y : Arrival). y.place) is
+  -- the part that the code finds is its data
+  pub arrival-data : (d : List ℕ) → d ≡ part_at x.place.start x.place.len b → d ≡ data_of a ends.Tool b
+  unfolding arrival_of data_of
+  arrival-data d = part_of x.place (data_place a ends.Tool b) b d (ap (λ (y : Incoming). y.place) is)
 
   -- d is its data
   module _ (d : List ℕ) (data_is : d ≡ data_of a ends.Tool b) where
@@ -162,7 +163,7 @@ module _ (a : Addresses) (t : ToolState) (b : List ℕ) (room_len : ℕ) (x : Ar
     arrival-room k = rw bytes-are (fits-in-room room_len t _ (taken-by k).fit)
 
 -- the room after a step s: kept where it is refused, by 2 or by the event's number
-module _ (a : Addresses) (t : ToolState) (b o : List ℕ) (out_len : ℕ) (x : Arrival) (is : x ≡ arrival_of a (length o) t b) (s : ToolStep)
+module _ (a : Addresses) (t : ToolState) (b o : List ℕ) (out_len : ℕ) (x : Incoming) (is : x ≡ arrival_of a (length o) t b) (s : ToolStep)
     (e : s ≡ event_result_given a t x.meaning x.new (length o) out_len) where
   step-number : different a ≡ true → s.number ≡ event_number t (length o) out_len
   unfolding event_result_given event_result
@@ -190,7 +191,7 @@ module _ (a : Addresses) (t : ToolState) (b o : List ℕ) (out_len : ℕ) (x : A
           rw p
           (changed-by s.number _ o' _ o (step-number p) z
           (q ∙ ap (λ (v : List ℕ). room_after t x.meaning v o) (bytes-are a t b (length o) x is d data_is)
-          ∙ ap (λ (y : Arrival). room_after t y.meaning (arrival_bytes a t b) o) is))
+          ∙ ap (λ (y : Incoming). room_after t y.meaning (arrival_bytes a t b) o) is))
       go false p = absurd (omega (arith, equal-number p))
 
 -- What a call hands back

@@ -12,13 +12,27 @@ use Rattle.split.specs.Codes.{sub}
 use Rattle.progress.specs.declared.Request.{Request}
 use Rattle.progress.specs.declared.Outcome.TheVariants.{Waiting}
 use Rattle.progress.specs.declared.ToolState.{ToolState}
-use Rattle.tool.specs.declared.ToolStep.{ToolStep}
+use Rattle.octets.specs.Numbers.{number}
+use Rattle.octets.specs.declared.refusal.Refusal.{Refusal}
+use Rattle.std.specs.Prelude.{Result, Ok, Err}
+use Rattle.tool.specs.declared.Step.{Step}
 use Rattle.arrival.specs.declared.Meaning.{Meaning}
 use Rattle.arrival.specs.declared.Meaning.TheVariants.{FailedWait}
 use Rattle.progress.specs.State.{is_transfer, is_waiting, possible}
 use Rattle.requests.specs.Sent.{frame_sent}
 use Rattle.arrival.specs.Meaning.{arrival_meaning, arrival_bytes}
 use Rattle.tool.specs.After.{state_after, sent_after, room_after}
+
+-- what a call hands back: "Each returns its number with the state as handed in"
+pub record ToolStep : Type 0 where
+  pub number : ℕ
+  pub state : ToolState
+  pub len : ℕ
+
+-- the same as the code has it, for the state handed in
+abbrev pub stepped : ToolState → Result Step Refusal → ToolStep
+stepped t (Ok step) = record { number = done; state = step.state; len = step.len }
+stepped t (Err refusal) = record { number = number refusal; state = t; len = 0 }
 
 -- Begin
 

@@ -65,19 +65,19 @@ pub(crate) fn write_sent(
             if 3 <= state.sendings {
                 0
             } else {
-                requests::sent::write_request(addresses, request, name, expected, out).len
+                requests::sent::write_request(addresses, request, name, expected, out).unwrap_or(0)
             }
         }
         Meaning::Confirmed => 0,
         Meaning::WholeAnswer => 0,
         Meaning::SubMessageTaken => {
             let next = SubMessage(expected.0 + 1);
-            requests::sent::write_request(addresses, request, name, next, out).len
+            requests::sent::write_request(addresses, request, name, next, out).unwrap_or(0)
         }
         Meaning::LastTaken => 0,
         Meaning::NoRoomForAnswer => 0,
         Meaning::NoRoomForSubMessage => {
-            requests::sent::write_acknowledgement(addresses, split::codes::stop(), out).len
+            requests::sent::write_acknowledgement(addresses, split::codes::stop(), out).unwrap_or(0)
         }
         Meaning::RefusedBy(_) => 0,
     }

@@ -7,11 +7,10 @@ mod after;
 pub mod call;
 mod room;
 
-// What a call hands back: refused, the state handed in and nothing sent; else the next state and the length of the
-// frame sent, 0 for none.
-#[derive(Clone, Copy)]
-pub struct ToolStep {
-    pub number: u8,
+// What a call hands back: the next state and the length of the frame sent, 0 for none. Refused, the state stays and
+// nothing is sent.
+#[derive(Clone, Copy, Debug, PartialEq, Eq)]
+pub struct Step {
     pub state: ToolState,
     pub len: usize,
 }

@@ -1,13 +1,14 @@
 -- Name, held bytes, room and bound, in this order.
 use Rattle.octets.proofs.Tests.{flag-nt, flag-nf}
+use Rattle.octets.proofs.CallLaws.{judged-refused, judged-done}
 use Rattle.progress.proofs.StateLaws.{transfer-unnamed, transfer-held, transfer-room, transfer-most}
 use Rattle.std.proofs.Common.{rules}
 use Rattle.progress.proofs.state.transfer_possible.Goals as goal
 
-ruleset all = (rules, flag-nt, flag-nf, transfer-unnamed, transfer-held, transfer-room, transfer-most)
+ruleset all = (rules, flag-nt, flag-nf, transfer-unnamed, transfer-held, transfer-room, transfer-most, judged-refused, judged-done)
 
-pub returns-then-name_number-ne0 : goal.returns-then-name_number-ne0
-returns-then-name_number-ne0 c = search all
+pub returns-then-is_err : goal.returns-then-is_err
+returns-then-is_err c = search all
 
 pub returns-then-not-held_right : goal.returns-then-not-held_right
 returns-then-not-held_right c = search all

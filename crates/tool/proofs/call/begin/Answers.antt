@@ -1,5 +1,5 @@
 -- Equal addresses, refused by the number, or the frame and the waiting state.
-use Rattle.octets.proofs.CallLaws.{kept_by, changed-by, zero-by}
+use Rattle.octets.proofs.CallLaws.{kept_by, changed-by, zero-by, refused-number}
 use Rattle.frame.proofs.GivenLaws.{given}
 use Rattle.tool.specs.Call.{begin_result_given, begin_out_given, begin_result, begin_state, begin_sent, begin_out}
 use Rattle.tool.proofs.CallLaws.{begin-room, step_is, none-sent, none_written, some-sent, some_written}
@@ -7,23 +7,23 @@ use Rattle.requests.proofs.SentLaws.{request-whole, request-front}
 use Rattle.std.proofs.Common.{rules}
 use Rattle.tool.proofs.call.begin.Goals as goal
 
-ruleset all = (rules, given, kept_by, changed-by, zero-by, begin-room, step_is, none-sent, none_written, some-sent, some_written, request-whole, request-front)
+ruleset all = (rules, refused-number, given, kept_by, changed-by, zero-by, begin-room, step_is, none-sent, none_written, some-sent, some_written, request-whole, request-front)
 
-pub returns-then-addresses-clause-value : goal.returns-then-addresses-clause-value
+pub returns-in_err-differ-clause-value : goal.returns-in_err-differ-clause-value
 unfolding begin_result_given begin_out_given begin_result begin_state begin_sent begin_out
-returns-then-addresses-clause-value c = search all
+returns-in_err-differ-clause-value c = search all
 
-pub returns-then-addresses-clause-out_after : goal.returns-then-addresses-clause-out_after
+pub returns-in_err-differ-clause-out_after : goal.returns-in_err-differ-clause-out_after
 unfolding begin_result_given begin_out_given begin_result begin_state begin_sent begin_out
-returns-then-addresses-clause-out_after c = search all
+returns-in_err-differ-clause-out_after c = search all
 
-pub returns-then-number-ne0-clause-value : goal.returns-then-number-ne0-clause-value
+pub returns-in_err-check_begin-clause-value : goal.returns-in_err-check_begin-clause-value
 unfolding begin_result_given begin_out_given begin_result begin_state begin_sent begin_out
-returns-then-number-ne0-clause-value c = search all
+returns-in_err-check_begin-clause-value c = search all
 
-pub returns-then-number-ne0-clause-out_after : goal.returns-then-number-ne0-clause-out_after
+pub returns-in_err-check_begin-clause-out_after : goal.returns-in_err-check_begin-clause-out_after
 unfolding begin_result_given begin_out_given begin_result begin_state begin_sent begin_out
-returns-then-number-ne0-clause-out_after c = search all
+returns-in_err-check_begin-clause-out_after c = search all
 
 pub returns-clause-value : goal.returns-clause-value
 unfolding begin_result_given begin_out_given begin_result begin_state begin_sent begin_out

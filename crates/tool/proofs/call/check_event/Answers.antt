@@ -2,7 +2,7 @@
 use Rattle.octets.proofs.Tests.{flag-nt, flag-nf}
 use Rattle.tool.proofs.CallLaws.{event-still, event-impossible, event-short, event-right}
 use Rattle.std.proofs.Common.{rules}
-use Rattle.tool.proofs.call.event_number.Goals as goal
+use Rattle.tool.proofs.call.check_event.Goals as goal
 
 ruleset all = (rules, flag-nt, flag-nf, event-still, event-impossible, event-short, event-right)
 

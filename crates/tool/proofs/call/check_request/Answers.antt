@@ -2,7 +2,7 @@
 use Rattle.octets.proofs.Tests.{flag-t, flag-f}
 use Rattle.tool.proofs.CallLaws.{request-transfer, request-trep, request-day, request-fixed}
 use Rattle.std.proofs.Common.{rules}
-use Rattle.tool.proofs.call.request_number.Goals as goal
+use Rattle.tool.proofs.call.check_request.Goals as goal
 
 ruleset all = (rules, flag-t, flag-f, request-transfer, request-trep, request-day, request-fixed)
 
