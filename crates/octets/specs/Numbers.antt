@@ -6,7 +6,7 @@ use Rattle.octets.specs.declared.Counted.{Counted}
 use Rattle.octets.specs.declared.Part.{Part}
 use Rattle.octets.specs.declared.refusal.Refusal.{Refusal}
 use Rattle.octets.specs.declared.refusal.Refusal.TheVariants as refusals
-use Rattle.std.specs.Prelude.{Result, Ok, Err, ⊤}
+use Rattle.std.specs.Prelude.{Option, Some, None, Result, Ok, Err, ⊤}
 
 abbrev pub done : ℕ
 done = 0
@@ -97,6 +97,10 @@ refused_place number = record { number = number; start = 0; len = 0 }
 abbrev pub counted_by : ℕ → ℕ → Counted
 counted_by number n = record { number = number; count = changed_by number n 0 }
 
+-- the part at a place, an empty one where it is refused
+abbrev pub part_of_place : Place → Part
+part_of_place place = record { start = place.start; len = place.len }
+
 -- What a call of the code hands back, in numbers: the refusal's own, 0 where it is done.
 
 abbrev pub number : Refusal → ℕ
@@ -131,6 +135,11 @@ written (Err refusal) = record { number = number refusal; len = 0 }
 abbrev pub placed : Result Part Refusal → Place
 placed (Ok part) = record { number = done; start = part.start; len = part.len }
 placed (Err refusal) = refused_place (number refusal)
+
+-- of one that looks an answer up: none is "6: answer not held"
+abbrev pub looked_up : Option Part → Place
+looked_up (Some part) = record { number = done; start = part.start; len = part.len }
+looked_up None = refused_place not_held
 
 -- of one that counts
 abbrev pub counted : Result ℕ Refusal → Counted

@@ -10,6 +10,7 @@ use borrow.Author.Tests.{leb-true}
 use Rattle.fields.specs.BigEndian.{number_at}
 use Rattle.octets.specs.Buffer.{same_bytes}
 use Rattle.octets.specs.declared.Place.{Place}
+use Rattle.octets.specs.Numbers.{part_of_place}
 use Rattle.frame.specs.Messages.{upload_request}
 use Rattle.catalog.specs.Table.{known_to, is_activities}
 use Rattle.catalog.specs.declared.AnswerName.{AnswerName}
@@ -110,9 +111,9 @@ module _ (P : Reaction → Type 0) (plain : (x : Reaction) → sends_answer x �
 
   -- the last one again, the next one, or none
   from-sending : (phase : Phase) (sent : Place) (c : AckCode)
-      → ((name : AnswerName) (last : SubMessage) → phase ≡ Sending name last → P (AnswerSent name last sent))
+      → ((name : AnswerName) (last : SubMessage) → phase ≡ Sending name last → P (AnswerSent name last (part_of_place sent)))
       → ((name : AnswerName) (last : SubMessage) → phase ≡ Sending name last → last.0 + 1 ≤ count_of (data_length_at sent)
-      → P (AnswerSent name (next_of last) sent))
+      → P (AnswerSent name (next_of last) (part_of_place sent)))
       → P (on_sending phase sent c)
   unfolding on_sending on_code
   from-sending Closed sent c again next = negative 0x83 0x22
@@ -124,14 +125,14 @@ module _ (P : Reaction → Type 0) (plain : (x : Reaction) → sends_answer x �
       (either P (same_code c (acknowledge_of last)) (go (leb (last.0 + 1) (count_of (data_length_at sent))) refl)
       (either P (same_code c stop_code) (plain AnswerStopped refl) (negative 0x83 0x22)))
     where
-      go : (b : Bool) → leb (last.0 + 1) (count_of (data_length_at sent)) ≡ b → P (cond b (AnswerSent name (next_of last) sent) (Negative 0x83 0x12))
+      go : (b : Bool) → leb (last.0 + 1) (count_of (data_length_at sent)) ≡ b → P (cond b (AnswerSent name (next_of last) (part_of_place sent)) (Negative 0x83 0x12))
       go true e = next name last refl (leb-true _ _ e)
       go false e = negative 0x83 0x12
 
   pub every-service : (sent asked : Place) (u : UnitState) (d : List ℕ) → P (answer_from (request_name d) (sub 1) asked)
-      → ((name : AnswerName) (last : SubMessage) → u.phase ≡ Sending name last → P (AnswerSent name last sent))
+      → ((name : AnswerName) (last : SubMessage) → u.phase ≡ Sending name last → P (AnswerSent name last (part_of_place sent)))
       → ((name : AnswerName) (last : SubMessage) → u.phase ≡ Sending name last → last.0 + 1 ≤ count_of (data_length_at sent)
-      → P (AnswerSent name (next_of last) sent))
+      → P (AnswerSent name (next_of last) (part_of_place sent)))
       → P (on_data sent asked u d)
   unfolding on_data
   every-service sent asked u d first again next =

@@ -10,6 +10,10 @@ use borrow.Author.Tests.{le-leb, lt-leb, eq-eqb, ne_eqb}
 use Rattle.octets.specs.Buffer.{same_bytes}
 use Rattle.fields.specs.BigEndian.{number_of, number_at}
 use Rattle.octets.specs.declared.Place.{Place}
+use Rattle.octets.specs.declared.Part.{Part}
+use Rattle.octets.specs.Numbers.{part_of_place, looked_up}
+use Rattle.std.specs.Prelude.{Option, Some, None}
+use Rattle.std.specs.Option.{unwrap_or}
 use Rattle.octets.proofs.Tests.{flag-nt, flag-nf}
 use Rattle.fields.proofs.NumberLaws.{read-two}
 use Rattle.catalog.specs.Table.{known_to, is_activities}
@@ -20,9 +24,10 @@ use Rattle.split.specs.Codes.{sub, code, next_of, acknowledge_of, repeat_of, sto
 use Rattle.split.specs.declared.SubMessage.{SubMessage}
 use Rattle.split.specs.declared.AckCode.{AckCode}
 use Rattle.services.specs.declared.Phase.{Phase}
+use Rattle.services.specs.declared.Phase.TheVariants.{Sending}
 use Rattle.services.specs.declared.Reaction.{Reaction}
 use Rattle.services.specs.declared.Reaction.TheVariants.{AnswerSent, AnswerStopped, Negative}
-use Rattle.services.specs.State.{is_granted, data_length_at}
+use Rattle.services.specs.State.{is_granted, data_length}
 use Rattle.services.specs.Services.{request_length, request_name, name_asked, answer_from, on_transfer, send_next, on_code, on_sending}
 
 -- A request that is its SID alone: the comparison with the fixed string is that of the length
@@ -102,18 +107,18 @@ code_same : (x : ℕ) (r k : AckCode) → x ≡ r.0 → r ≡ k → eqb x k.0 �
 code_same x r k e q = eq-eqb x k.0 (e ∙ ap (λ (y : AckCode). y.0) q)
 
 -- The returns of a code; a, b and s are the codes that `split::codes` gave
-module _ (name : AnswerName) (last : SubMessage) (place : Place) (c a : AckCode) (again : a ≡ repeat_of last) where
-  pub code-repeat : c.0 ≡ a.0 → AnswerSent name last place ≡ on_code name last place c
+module _ (name : AnswerName) (last : SubMessage) (part : Part) (c a : AckCode) (again : a ≡ repeat_of last) where
+  pub code-repeat : c.0 ≡ a.0 → AnswerSent name last part ≡ on_code name last part c
   unfolding on_code
   code-repeat h = rw (code_same c.0 a (repeat_of last) h again)
 
   module _ (not-again : c.0 ≡ a.0 → ⊥) (b : AckCode) (next : b ≡ acknowledge_of last) where
-    pub code-next : (r : Reaction) → c.0 ≡ b.0 → r ≡ send_next name last place → r ≡ on_code name last place c
+    pub code-next : (r : Reaction) → c.0 ≡ b.0 → r ≡ send_next name last part → r ≡ on_code name last part c
     unfolding on_code
     code-next r h q = rw (code-differs c.0 a (repeat_of last) not-again again, code_same c.0 b (acknowledge_of last) h next) q
 
     module _ (not-next : c.0 ≡ b.0 → ⊥) (s : AckCode) (stop : s ≡ stop_code) where
-      pub code-stop : c.0 ≡ s.0 → AnswerStopped ≡ on_code name last place c
+      pub code-stop : c.0 ≡ s.0 → AnswerStopped ≡ on_code name last part c
       unfolding on_code
       code-stop h =
           rw (
@@ -122,7 +127,7 @@ module _ (name : AnswerName) (last : SubMessage) (place : Place) (c a : AckCode)
             code_same c.0 s stop_code h stop,
           )
 
-      pub code_other : (c.0 ≡ s.0 → ⊥) → Negative 0x83 0x22 ≡ on_code name last place c
+      pub code_other : (c.0 ≡ s.0 → ⊥) → Negative 0x83 0x22 ≡ on_code name last part c
       unfolding on_code
       code_other h =
           rw (
@@ -132,19 +137,30 @@ module _ (name : AnswerName) (last : SubMessage) (place : Place) (c a : AckCode)
           )
 
 -- The sub message behind the last one; n is the length of the data, c the count
-module _ (name : AnswerName) (last : SubMessage) (place : Place) (n c : ℕ) (measured : n ≡ data_length_at place) (counted : c ≡ count_of n) where
-  count-is : count_of (data_length_at place) ≡ c
+module _ (name : AnswerName) (last : SubMessage) (part : Part) (n c : ℕ) (measured : n ≡ data_length part) (counted : c ≡ count_of n) where
+  count-is : count_of (data_length part) ≡ c
   count-is = sym (counted ∙ ap count_of measured)
 
-  pub next-none : c < last.0 + 1 → Negative 0x83 0x12 ≡ send_next name last place
+  pub next-none : c < last.0 + 1 → Negative 0x83 0x12 ≡ send_next name last part
   next-none h = rw (count-is, lt-leb (last.0 + 1) c h)
 
-  pub next-such : (k : SubMessage) → last.0 + 1 ≤ c → k ≡ next_of last → AnswerSent name k place ≡ send_next name last place
+  pub next-such : (k : SubMessage) → last.0 + 1 ≤ c → k ≡ next_of last → AnswerSent name k part ≡ send_next name last part
   next-such k h e = rw (count-is, le-leb (last.0 + 1) c h, e)
 
 -- a code is heard by the answer that is being sent
 pub sending-is : (phase p : Phase) (place : Place) (r : Reaction) (c : AckCode) → phase ≡ p → r ≡ on_sending p place c → r ≡ on_sending phase place c
 sending-is phase p place r c e q = rw e q
+
+-- the part of the answer that is being sent, which a unit in a possible state holds
+module _ (name : AnswerName) (last : SubMessage) (c : AckCode) where
+  looked-part : (sent : Option Part) → unwrap_or sent (record { start = 0; len = 0 }) ≡ part_of_place (looked_up sent)
+  looked-part (Some part) = refl
+  looked-part None = refl
+
+  pub sending-code : (phase : Phase) (sent : Option Part) (part : Part) (r : Reaction) → phase ≡ Sending name last
+      → part ≡ unwrap_or sent (record { start = 0; len = 0 }) → r ≡ on_code name last part c → r ≡ on_sending phase (looked_up sent) c
+  unfolding on_sending
+  sending-code phase sent part r e p q = rw e (rw (p ∙ looked-part sent) at q)
 
 -- the code of an acknowledgement stands in its third and fourth byte
 pub code_read : (phase : Phase) (place : Place) (d : List ℕ) (r : Reaction) (c : ℕ) → length d ≡ 4 → c ≡ number_of (get_or d 2 0 ∷ get_or d 3 0 ∷ [])

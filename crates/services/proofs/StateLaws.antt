@@ -5,17 +5,19 @@ use mathlib.Core.Path.{◌≡◌, sym, ap, ◌∙◌}
 use lib.Dec.{eqb, ltb, leb}
 use borrow.Author.Tests.{le-leb, lt-leb, eq-eqb, ne_eqb, leb-true, ltb-true, eqb-true, not-true, not-false}
 use Rattle.octets.specs.declared.Place.{Place}
+use Rattle.octets.specs.declared.Part.{Part}
+use Rattle.octets.specs.Numbers.{part_of_place}
 use Rattle.octets.proofs.Tests.{and_left, and_right}
 use Rattle.catalog.specs.declared.AnswerName.{AnswerName}
 use Rattle.split.specs.Split.{single_most, is_split, count_of}
 use Rattle.split.specs.declared.SubMessage.{SubMessage}
 use Rattle.services.specs.declared.Phase.{Phase}
 use Rattle.services.specs.declared.UnitState.{UnitState}
-use Rattle.services.specs.State.{name_sent, data_length_at, sendable, phase_possible, possible_at}
+use Rattle.services.specs.State.{name_sent, data_length, data_length_at, sendable, phase_possible, possible_at}
 
--- whether the answer at a place is split, from the code's own tests: n is the length of its data, t whether that is split
-pub split-is : (place : Place) (n : ℕ) (t : Bool) → n ≡ data_length_at place → t ≡ is_split n → is_split (data_length_at place) ≡ t
-split-is place n t measured asked = sym (asked ∙ ap is_split measured)
+-- whether an answer is split, from the code's own tests: n is the length of its data, t whether that is split
+pub split-is : (part : Part) (n : ℕ) (t : Bool) → n ≡ data_length part → t ≡ is_split n → is_split (data_length part) ≡ t
+split-is part n t measured asked = sym (asked ∙ ap is_split measured)
 
 -- The returns of `sendable`, from its tests; n and t as above
 module _ (place : Place) (k : SubMessage) where
@@ -25,7 +27,7 @@ module _ (place : Place) (k : SubMessage) where
 
   module _ (held : place.number ≡ 0) (n : ℕ) (measured : n ≡ data_length_at place) (t : Bool) (asked : t ≡ is_split n) where
     is-split : is_split (data_length_at place) ≡ t
-    is-split = split-is place n t measured asked
+    is-split = split-is (part_of_place place) n t measured asked
 
     pub sendable-whole : not t ≡ true → false ≡ sendable place k
     unfolding sendable

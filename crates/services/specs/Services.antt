@@ -6,6 +6,8 @@ use Rattle.octets.specs.Order.{unless}
 use Rattle.octets.specs.Buffer.{same_bytes}
 use Rattle.fields.specs.BigEndian.{number_at}
 use Rattle.octets.specs.declared.Place.{Place}
+use Rattle.octets.specs.declared.Part.{Part}
+use Rattle.octets.specs.Numbers.{part_of_place}
 use Rattle.frame.specs.Messages.{upload_request}
 use Rattle.catalog.specs.Table.{known_to, is_activities}
 use Rattle.catalog.specs.Name.{no_answer}
@@ -21,7 +23,7 @@ use Rattle.services.specs.declared.Reaction.TheVariants.{SessionOpened, RateOffe
 use Rattle.services.specs.declared.Reaction.TheVariants.{AnswerSent, AnswerStopped, TransferExited}
 use Rattle.services.specs.declared.Reaction.TheVariants.{CommunicationStopped, Negative}
 use Rattle.services.specs.declared.UnitState.{UnitState}
-use Rattle.services.specs.State.{in_session, is_granted, data_length_at}
+use Rattle.services.specs.State.{in_session, is_granted, data_length}
 
 -- "10 81 | not closed | 50 81, session"
 unfoldable pub on_session : List ℕ → Reaction
@@ -77,7 +79,7 @@ name_asked d = cond (eqb (get_or d 0 0) 0x36) (request_name d) no_answer
 
 -- "granted, sending | unsplit answer, granted; or sub message 1, sending"; "data held (FA)"
 unfoldable pub answer_from : AnswerName → SubMessage → Place → Reaction
-answer_from name k place = unless (eqb place.number 0) (Negative 0x36 0xFA) (AnswerSent name k place)
+answer_from name k place = unless (eqb place.number 0) (Negative 0x36 0xFA) (AnswerSent name k (part_of_place place))
 
 -- "The unit no longer answers 31 for a day" (document 02, Req 03); asked is where the answer lies
 unfoldable pub on_transfer : ℕ → Phase → Place → List ℕ → Reaction
@@ -100,13 +102,13 @@ unfoldable pub on_stop : List ℕ → Reaction
 on_stop d = unless (eqb (length d) 1) (Negative 0x82 0x13) CommunicationStopped
 
 -- ".. send the next, or 12 if there is none"
-abbrev pub send_next : AnswerName → SubMessage → Place → Reaction
+abbrev pub send_next : AnswerName → SubMessage → Part → Reaction
 send_next name last sent =
-    unless (leb (last.0 + 1) (count_of (data_length_at sent))) (Negative 0x83 0x12)
+    unless (leb (last.0 + 1) (count_of (data_length sent))) (Negative 0x83 0x12)
     (AnswerSent name (next_of last) sent)
 
 -- "Code (DDP_017): last sent, send it again; last sent plus 1, send the next ..; FFFF, silence, granted; any other, 22"
-unfoldable pub on_code : AnswerName → SubMessage → Place → AckCode → Reaction
+unfoldable pub on_code : AnswerName → SubMessage → Part → AckCode → Reaction
 on_code name last sent c =
     cond (same_code c (repeat_of last)) (AnswerSent name last sent)
     (cond (same_code c (acknowledge_of last)) (send_next name last sent)
@@ -119,7 +121,7 @@ on_sending Closed sent c = Negative 0x83 0x22
 on_sending Started sent c = Negative 0x83 0x22
 on_sending Session sent c = Negative 0x83 0x22
 on_sending Granted sent c = Negative 0x83 0x22
-on_sending (Sending name last) sent c = on_code name last sent c
+on_sending (Sending name last) sent c = on_code name last (part_of_place sent) c
 
 -- "83 76 and a code | sending"; "In 83 a second byte other than 76 is 31"
 unfoldable pub on_acknowledge : Phase → Place → List ℕ → Reaction

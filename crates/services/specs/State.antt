@@ -2,6 +2,8 @@
 -- rules speak of the place where it lies.
 use Rattle.std.specs.Prelude.{ℕ, ◌-◌, Bool, true, false, ◌&&◌, eqb, ltb, leb}
 use Rattle.octets.specs.declared.Place.{Place}
+use Rattle.octets.specs.declared.Part.{Part}
+use Rattle.octets.specs.Numbers.{part_of_place}
 use Rattle.catalog.specs.Name.{no_answer}
 use Rattle.catalog.specs.declared.AnswerName.{AnswerName}
 use Rattle.split.specs.declared.SubMessage.{SubMessage}
@@ -44,9 +46,12 @@ name_sent Session = no_answer
 name_sent Granted = no_answer
 name_sent (Sending name last) = name
 
--- the data bytes of the answer at a place, behind 76 and TREP
+-- the data bytes of an answer that is this part of the store, behind 76 and TREP
+abbrev pub data_length : Part → ℕ
+data_length part = part.len - 2
+
 abbrev pub data_length_at : Place → ℕ
-data_length_at place = place.len - 2
+data_length_at place = data_length (part_of_place place)
 
 -- the answer at that place has sub message k: it is held, split, and the number is among its sub messages
 unfoldable pub sendable : Place → SubMessage → Bool

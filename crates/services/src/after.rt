@@ -4,7 +4,7 @@ ghost use Rattle.services.specs.After.{with_phase, with_rate, phase_after, state
 
 use crate::{Phase, Reaction, UnitState};
 use catalog::AnswerName;
-use octets::Place;
+use octets::Part;
 use split::SubMessage;
 
 fn with_rate(state: UnitState, rate: u8, pending: u8, phase: Phase) -> UnitState
@@ -26,10 +26,10 @@ fn with_phase(state: UnitState, phase: Phase) -> UnitState
 }
 
 // Only a split answer is still being sent behind its first frame.
-fn phase_after(name: AnswerName, message: SubMessage, place: Place) -> Phase
-    ensures { result ≡ phase_after name message place }
+fn phase_after(name: AnswerName, message: SubMessage, part: Part) -> Phase
+    ensures { result ≡ phase_after name message part }
 {
-    if split::pieces::is_split(crate::state::data_at(place)) {
+    if split::pieces::is_split(crate::state::data_length(part)) {
         return Phase::Sending(name, message);
     }
     Phase::Granted
@@ -47,8 +47,8 @@ pub fn state_after(state: UnitState, reaction: Reaction) -> UnitState
         Reaction::RateOffered(rate) => with_rate(state, state.rate, rate, phase),
         Reaction::RateChanged => with_rate(state, state.pending, 0, phase),
         Reaction::UploadGranted => with_phase(state, Phase::Granted),
-        Reaction::AnswerSent(name, message, place) => {
-            with_phase(state, phase_after(name, message, place))
+        Reaction::AnswerSent(name, message, part) => {
+            with_phase(state, phase_after(name, message, part))
         }
         Reaction::AnswerStopped => with_phase(state, Phase::Granted),
         Reaction::TransferExited => with_phase(state, Phase::Session),

@@ -1,5 +1,5 @@
 // The unit's state and its services (document 01, The unit): what each makes of the data of a good frame, and what
-// becomes of the state. Of the store they know the places of two answers alone.
+// becomes of the state. Of the store they know the parts of two answers alone.
 #![tactic(auto)]
 
 pub mod after;
@@ -9,11 +9,11 @@ pub mod state;
 pub mod transfer;
 
 use catalog::AnswerName;
-use octets::Place;
+use octets::Part;
 use split::SubMessage;
 
 // Closed, started, session, granted, or sending: which answer, and the last number sent.
-#[derive(Clone, Copy)]
+#[derive(Clone, Copy, Debug, PartialEq, Eq)]
 pub enum Phase {
     Closed,
     Started,
@@ -23,7 +23,7 @@ pub enum Phase {
 }
 
 // The phase lies in the state beside kind, baud rate (1 to 5) and a pending rate, 0 for none.
-#[derive(Clone, Copy)]
+#[derive(Clone, Copy, Debug, PartialEq, Eq)]
 pub struct UnitState {
     pub kind: u8,
     pub rate: u8,
@@ -32,7 +32,7 @@ pub struct UnitState {
 }
 
 // What the unit does at a good frame: what it answers, and what becomes of its state.
-#[derive(Clone, Copy)]
+#[derive(Clone, Copy, Debug, PartialEq, Eq)]
 pub enum Reaction {
     // closed, and no start communication: silence
     Ignored,
@@ -41,8 +41,8 @@ pub enum Reaction {
     RateOffered(u8),
     RateChanged,
     UploadGranted,
-    // this sub message of the answer that lies at this place of the store
-    AnswerSent(AnswerName, SubMessage, Place),
+    // this sub message of the answer that is this part of the store
+    AnswerSent(AnswerName, SubMessage, Part),
     // code FFFF: silence
     AnswerStopped,
     TransferExited,

@@ -1,11 +1,12 @@
 // The unit's state: fresh, possible, and what the phases mean.
 ghost use Rattle.std.specs.Prelude.{◌≡◌};
+ghost use Rattle.octets.specs.Numbers.{looked_up};
 ghost use Rattle.services.specs.State.{fresh_unit, is_closed, in_session, is_granted, name_sent};
-ghost use Rattle.services.specs.State.{data_length_at, sendable, phase_possible, possible_at};
+ghost use Rattle.services.specs.State.{data_length, sendable, phase_possible, possible_at};
 
 use crate::{Phase, UnitState};
 use catalog::{AnswerName, KINDS, NO_ANSWER};
-use octets::Place;
+use octets::Part;
 use split::SubMessage;
 
 // A unit of this kind that was just switched on.
@@ -57,23 +58,23 @@ pub(crate) fn is_granted(phase: Phase) -> bool
     }
 }
 
-// The data bytes of the answer at this place, behind 76 and TREP.
-pub(crate) fn data_at(place: Place) -> usize
-    ensures { result ≡ data_length_at place }
+// The data bytes of an answer that is this part of the store, behind 76 and TREP.
+pub(crate) fn data_length(part: Part) -> usize
+    ensures { result ≡ data_length part }
 {
-    let len = place.len;
+    let len = part.len;
     if len < 2 { 0 } else { len - 2 }
 }
 
-// Whether the answer at this place is held and split, and has this sub message.
-fn sendable(place: Place, message: SubMessage) -> bool
-    ensures { result ≡ sendable place message }
+// Whether the answer is held and split, and has this sub message.
+fn sendable(sent: Option<Part>, message: SubMessage) -> bool
+    ensures { result ≡ sendable (looked_up sent) message }
 {
-    let k = message.0 as usize;
-    let len = data_at(place);
-    if place.number != 0 {
+    let Some(part) = sent else {
         return false;
-    }
+    };
+    let k = message.0 as usize;
+    let len = data_length(part);
     if !split::pieces::is_split(len) {
         return false;
     }
@@ -83,8 +84,8 @@ fn sendable(place: Place, message: SubMessage) -> bool
     k <= split::pieces::count_of(len)
 }
 
-fn phase_possible(phase: Phase, sent: Place) -> bool
-    ensures { result ≡ phase_possible sent phase }
+fn phase_possible(phase: Phase, sent: Option<Part>) -> bool
+    ensures { result ≡ phase_possible (looked_up sent) phase }
 {
     match phase {
         Phase::Closed => true,
@@ -95,9 +96,9 @@ fn phase_possible(phase: Phase, sent: Place) -> bool
     }
 }
 
-// Whether the state is possible, from the place of the answer that is being sent.
-pub fn possible_at(state: UnitState, sent: Place) -> bool
-    ensures { result ≡ possible_at sent state }
+// Whether the state is possible, from the answer that is being sent, if it is held.
+pub fn possible_at(state: UnitState, sent: Option<Part>) -> bool
+    ensures { result ≡ possible_at (looked_up sent) state }
 {
     let kind = state.kind;
     let rate = state.rate;

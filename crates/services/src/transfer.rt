@@ -1,11 +1,12 @@
 // Transfer data (36) and acknowledge (83): the answers of the store.
 ghost use Rattle.std.specs.Prelude.{◌≡◌};
+ghost use Rattle.octets.specs.Numbers.{looked_up};
 ghost use Rattle.services.specs.Services.{request_length, request_name, name_asked, answer_from, on_transfer};
 ghost use Rattle.services.specs.Services.{send_next, on_code, on_sending, on_acknowledge};
 
 use crate::{Phase, Reaction};
 use catalog::{AnswerName, NO_ANSWER};
-use octets::Place;
+use octets::Part;
 use octets::wire::{
     ACKNOWLEDGE, ANSWER, CONDITIONS_WRONG, DATA_NOT_AVAILABLE, LENGTH_WRONG, OUT_OF_RANGE,
     SUB_FUNCTION_UNKNOWN, TRANSFER_DATA,
@@ -29,13 +30,13 @@ fn request_name(data: &[u8]) -> AnswerName
     }
 }
 
-fn answer_from(name: AnswerName, message: SubMessage, place: Place) -> Reaction
-    ensures { result ≡ answer_from name message place }
+fn answer_from(name: AnswerName, message: SubMessage, held: Option<Part>) -> Reaction
+    ensures { result ≡ answer_from name message (looked_up held) }
 {
-    if place.number != 0 {
-        return Reaction::Negative(TRANSFER_DATA, DATA_NOT_AVAILABLE);
+    match held {
+        Some(part) => Reaction::AnswerSent(name, message, part),
+        None => Reaction::Negative(TRANSFER_DATA, DATA_NOT_AVAILABLE),
     }
-    Reaction::AnswerSent(name, message, place)
 }
 
 // The answer that a frame's data asks for.
@@ -49,9 +50,9 @@ pub fn name_asked(data: &[u8]) -> AnswerName
     }
 }
 
-// Transfer data: 36 TRTP (day). `asked` is the place of the answer that it names.
-pub(crate) fn on_transfer(kind: u8, phase: Phase, asked: Place, data: &[u8]) -> Reaction
-    ensures { result ≡ on_transfer kind phase asked «data».now }
+// Transfer data: 36 TRTP (day). `asked` is the answer that it names, if it is held.
+pub(crate) fn on_transfer(kind: u8, phase: Phase, asked: Option<Part>, data: &[u8]) -> Reaction
+    ensures { result ≡ on_transfer kind phase (looked_up asked) «data».now }
 {
     if data.len() < 2 {
         return Reaction::Negative(TRANSFER_DATA, LENGTH_WRONG);
@@ -70,26 +71,26 @@ pub(crate) fn on_transfer(kind: u8, phase: Phase, asked: Place, data: &[u8]) -> 
 }
 
 // The sub message behind the last one, or 12 if there is none.
-fn send_next(name: AnswerName, last: SubMessage, place: Place) -> Reaction
-    ensures { result ≡ send_next name last place }
+fn send_next(name: AnswerName, last: SubMessage, sent: Part) -> Reaction
+    ensures { result ≡ send_next name last sent }
 {
     let next = last.0 as usize + 1;
-    if split::pieces::count_of(crate::state::data_at(place)) < next {
+    if split::pieces::count_of(crate::state::data_length(sent)) < next {
         return Reaction::Negative(ACKNOWLEDGE, SUB_FUNCTION_UNKNOWN);
     }
-    Reaction::AnswerSent(name, split::codes::next(last), place)
+    Reaction::AnswerSent(name, split::codes::next(last), sent)
 }
 
 // A code while an answer is being sent (DDP_017).
-fn on_code(name: AnswerName, last: SubMessage, place: Place, code: AckCode) -> Reaction
-    ensures { result ≡ on_code name last place code }
+fn on_code(name: AnswerName, last: SubMessage, sent: Part, code: AckCode) -> Reaction
+    ensures { result ≡ on_code name last sent code }
 {
     let c = code.0;
     if c == split::codes::repeat(last).0 {
-        return Reaction::AnswerSent(name, last, place);
+        return Reaction::AnswerSent(name, last, sent);
     }
     if c == split::codes::acknowledge(last).0 {
-        return send_next(name, last, place);
+        return send_next(name, last, sent);
     }
     if c == split::codes::stop().0 {
         return Reaction::AnswerStopped;
@@ -97,8 +98,9 @@ fn on_code(name: AnswerName, last: SubMessage, place: Place, code: AckCode) -> R
     Reaction::Negative(ACKNOWLEDGE, CONDITIONS_WRONG)
 }
 
-fn on_sending(phase: Phase, sent: Place, code: AckCode) -> Reaction
-    ensures { result ≡ on_sending phase sent code }
+// A unit in a possible state holds the answer that it is sending; beside another state there may be none.
+fn on_sending(phase: Phase, sent: Option<Part>, code: AckCode) -> Reaction
+    ensures { result ≡ on_sending phase (looked_up sent) code }
 {
     let refused = Reaction::Negative(ACKNOWLEDGE, CONDITIONS_WRONG);
     match phase {
@@ -106,13 +108,16 @@ fn on_sending(phase: Phase, sent: Place, code: AckCode) -> Reaction
         Phase::Started => refused,
         Phase::Session => refused,
         Phase::Granted => refused,
-        Phase::Sending(name, last) => on_code(name, last, sent, code),
+        Phase::Sending(name, last) => {
+            let part = sent.unwrap_or(Part { start: 0, len: 0 });
+            on_code(name, last, part, code)
+        }
     }
 }
 
-// Acknowledge: 83 76 and a code. `sent` is the place of the answer that is being sent.
-pub(crate) fn on_acknowledge(phase: Phase, sent: Place, data: &[u8]) -> Reaction
-    ensures { result ≡ on_acknowledge phase sent «data».now }
+// Acknowledge: 83 76 and a code. `sent` is the answer that is being sent, if it is held.
+pub(crate) fn on_acknowledge(phase: Phase, sent: Option<Part>, data: &[u8]) -> Reaction
+    ensures { result ≡ on_acknowledge phase (looked_up sent) «data».now }
 {
     if data.len() != 4 {
         return Reaction::Negative(ACKNOWLEDGE, LENGTH_WRONG);

@@ -8,7 +8,7 @@ use Rattle.octets.specs.declared.Place.{Place}
 use Rattle.octets.specs.declared.Counted.{Counted}
 use Rattle.catalog.specs.Name.{zero_name, rounded, same_answer}
 use Rattle.catalog.specs.declared.AnswerName.{AnswerName}
-use Rattle.octets.specs.Numbers.{number, refused_place}
+use Rattle.octets.specs.Numbers.{number, refused_place, looked_up}
 use Rattle.octets.specs.declared.Part.{Part}
 use Rattle.octets.specs.declared.refusal.Refusal.{Refusal}
 use Rattle.std.specs.Prelude.{Option, Some, None, Result, Ok, Err}
@@ -32,13 +32,8 @@ pub record Held : Type 0 where
 
 -- what the code's calls hand back
 
--- none: not held
-abbrev pub held_place : Option Part → Place
-held_place (Some part) = record { number = done; start = part.start; len = part.len }
-held_place None = refused_place not_held
-
 abbrev pub two_places : Result TwoParts Refusal → TwoPlaces
-two_places (Ok parts) = record { number = done; first = held_place parts.first; second = held_place parts.second }
+two_places (Ok parts) = record { number = done; first = looked_up parts.first; second = looked_up parts.second }
 two_places (Err refusal) =
     record { number = number refusal; first = refused_place (number refusal); second = refused_place (number refusal) }
 

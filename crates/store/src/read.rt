@@ -1,9 +1,9 @@
 // Reading a store: one answer by its name, the whole stream, and the answers one by one.
 ghost use Rattle.std.specs.Prelude.{◌≡◌};
-ghost use Rattle.octets.specs.Numbers.{placed, counted};
+ghost use Rattle.octets.specs.Numbers.{placed, looked_up, counted};
 ghost use Rattle.store.specs.Layout.{narrow};
 ghost use Rattle.store.specs.Check.{store_number};
-ghost use Rattle.store.specs.Read.{held_place, two_places, held_given, lookup_place, lookup_both, lookup_part, stream_place};
+ghost use Rattle.store.specs.Read.{two_places, held_given, lookup_place, lookup_both, lookup_part, stream_place};
 ghost use Rattle.store.specs.Read.{stream_part, count_held, held_answer};
 
 use crate::{HeldAnswer, TwoParts};
@@ -15,7 +15,7 @@ use octets::refusal::Refusal;
 // under the first second of their day. FF is no TREP, and nothing is looked for.
 fn find(store: &[u8], name: AnswerName) -> Option<Part>
     requires { store_number narrow store.now ≡ 0 }
-    ensures { held_place result ≡ lookup_place narrow name store.now }
+    ensures { looked_up result ≡ lookup_place narrow name store.now }
 {
     if name.trep == ABSENT {
         return None;

@@ -1,6 +1,6 @@
 -- One case for each phase.
 use Rattle.services.specs.Services.{on_sending}
-use Rattle.services.proofs.ServiceLaws.{sending-is}
+use Rattle.services.proofs.ServiceLaws.{sending-is, sending-code}
 use Rattle.services.proofs.transfer.on_sending.Goals as goal
 
 pub returns-in-Closed : goal.returns-in-Closed
@@ -20,5 +20,4 @@ unfolding on_sending
 returns-in-Granted c = search sending-is
 
 pub returns-in-Sending : goal.returns-in-Sending
-unfolding on_sending
-returns-in-Sending c = search sending-is
+returns-in-Sending c = search sending-code
