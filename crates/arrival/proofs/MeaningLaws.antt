@@ -11,7 +11,7 @@ use Rattle.octets.specs.declared.Place.{Place}
 use Rattle.frame.specs.declared.Addresses.{Addresses}
 use Rattle.frame.specs.declared.End.TheVariants as ends
 use Rattle.frame.specs.Frame.{judged, data_place, data_of}
-use Rattle.frame.proofs.CheckLaws.{place-number}
+use Rattle.frame.proofs.CheckLaws.{place-number, found-data}
 use Rattle.split.specs.Join.{received_as}
 use Rattle.split.specs.declared.Received.{Received}
 use Rattle.progress.specs.declared.Request.{Request}
@@ -21,7 +21,7 @@ use Rattle.octets.specs.Buffer.{part_at}
 use Rattle.octets.specs.Numbers.{number, placed}
 use Rattle.octets.specs.declared.Part.{Part}
 use Rattle.octets.specs.declared.refusal.Refusal.{Refusal}
-use Rattle.octets.proofs.CallLaws.{part_of, refused-number}
+use Rattle.octets.proofs.CallLaws.{refused-number}
 use Rattle.arrival.specs.Meaning.{Incoming}
 use Rattle.arrival.specs.declared.Meaning.{Meaning}
 use Rattle.arrival.specs.declared.Meaning.TheVariants.{Ignored, FailedWait, Confirmed}
@@ -88,8 +88,7 @@ module _ (a : Addresses) (room_len : ℕ) (t : ToolState) (b d : List ℕ) (l : 
     (read : d ≡ part_at (placed l).start (placed l).len b)
     (received : x ≡ received_as t.name.trep t.expected.0 d) (adds : n ≡ length (new_bytes t x d)) where
   data_is : d ≡ data_of a ends.Tool b
-  unfolding data_of
-  data_is = part_of (placed l) (data_place a ends.Tool b) b d located read
+  data_is = found-data a ends.Tool b (placed l) located d read
 
   arrives : (m : Meaning) → m ≡ arrival_meaning a room_len t b
       → ◌≡◌ {A = Incoming} (record { place = placed l; received = x; new = n; meaning = m }) (arrival_of a room_len t b)

@@ -1,7 +1,8 @@
 -- The test of two given addresses, for the returns of every call with them.
 use Prim.Native.Nat.{ℕ}
 use mathlib.Core.Bool.{Bool, true, false}
-use mathlib.Core.Path.{◌≡◌, sym, ap, ◌∙◌}
+use mathlib.Core.Path.{◌≡◌, refl, sym, ap, ◌∙◌}
+use native.Mathlib.Omega.{arith}
 use borrow.Author.Tests.{eq-eqb, ne_eqb}
 use Rattle.octets.specs.Order.{unless}
 use Rattle.frame.specs.declared.Addresses.{Addresses}
@@ -40,3 +41,11 @@ module _ {A : Type 0} (a : Addresses) (refusal rest : A) where
       go false q = absurd (refused (ap number (sym q) ∙ z))
 
 pub ruleset given = (equal-refused, different-done)
+
+-- the test of the two was passed
+pub passed-different : (a : Addresses) → ◌≡◌ {A = ℕ} 0 (unless (different a) 2 0) → different a ≡ true
+passed-different a e = go (different a) e
+  where
+    go : (d : Bool) → ◌≡◌ {A = ℕ} 0 (unless d 2 0) → d ≡ true
+    go true q = refl
+    go false q = absurd (omega (arith, q))

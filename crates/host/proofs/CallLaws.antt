@@ -20,7 +20,7 @@ use Rattle.catalog.specs.declared.AnswerName.{AnswerName}
 use Rattle.store.specs.Layout.{narrow}
 use Rattle.store.specs.Check.{store_number}
 use Rattle.services.specs.declared.UnitState.{UnitState}
-use Rattle.unit.specs.declared.UnitReply.{UnitReply}
+use Rattle.unit.specs.Call.{UnitReply}
 use Rattle.services.specs.State.{fresh_unit, possible_at}
 use Rattle.unit.specs.State as unit-state
 use Rattle.unit.specs.Call.{number_before, unit_number, unit_result, unit_result_given, unit_out_given}

@@ -9,7 +9,7 @@ use Rattle.octets.specs.declared.Written.{Written}
 use Rattle.frame.specs.declared.Addresses.{Addresses}
 use Rattle.frame.specs.Given.{different}
 use Rattle.catalog.specs.declared.AnswerName.{AnswerName}
-use Rattle.unit.specs.declared.UnitReply.{UnitReply}
+use Rattle.unit.specs.Call.{UnitReply}
 use Rattle.services.specs.State.{fresh_unit}
 use Rattle.unit.specs.Call.{unit_result_given, unit_out_given}
 use Rattle.tool.specs.Call.{ToolStep}

@@ -14,7 +14,7 @@ use Rattle.catalog.specs.declared.AnswerName.{AnswerName}
 use Rattle.store.specs.Layout.{narrow}
 use Rattle.store.specs.Check.{store_number}
 use Rattle.store.specs.Faults.{IsFault}
-use Rattle.unit.specs.declared.UnitReply.{UnitReply}
+use Rattle.unit.specs.Call.{UnitReply}
 use Rattle.tool.specs.Call.{ToolStep}
 use Rattle.unit.specs.Call.{unit_result, unit_out}
 use Rattle.tool.specs.Call.{request_number, begin_result, begin_out}

@@ -14,7 +14,7 @@ use Rattle.frame.specs.Given.{different}
 use Rattle.catalog.specs.declared.AnswerName.{AnswerName}
 use Rattle.services.specs.declared.UnitState.{UnitState}
 use Rattle.services.specs.State.{fresh_unit}
-use Rattle.unit.specs.declared.UnitReply.{UnitReply}
+use Rattle.unit.specs.Call.{UnitReply}
 use Rattle.unit.specs.Call.{unit_result, unit_result_given}
 use Rattle.unit.proofs.BoundLaws as units
 use Rattle.progress.specs.declared.ToolState.{ToolState}

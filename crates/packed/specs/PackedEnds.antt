@@ -13,7 +13,7 @@ use Rattle.std.proofs.Math.Option.{none, some}
 use Rattle.octets.specs.declared.Written.{Written}
 use Rattle.frame.specs.declared.Addresses.{Addresses}
 use Rattle.catalog.specs.declared.AnswerName.{AnswerName}
-use Rattle.unit.specs.declared.UnitReply.{UnitReply}
+use Rattle.unit.specs.Call.{UnitReply}
 use Rattle.tool.specs.Call.{ToolStep}
 use Rattle.host.specs.Calls as calls
 use Rattle.host.specs.Calls.{unit_handed, unit_kept, unit_step, unit_step_reply, tool_handed, tool_kept, tool_begin}

@@ -10,7 +10,8 @@ use borrow.Author.Tests.{le-leb, lt-leb, eq-eqb, ne_eqb, leb-true}
 use Rattle.octets.specs.Numbers.{changed_by}
 use Rattle.octets.specs.Buffer.{front, part_at}
 use Rattle.octets.proofs.OrderLaws.{unless-is, or-zero}
-use Rattle.octets.proofs.CallLaws.{kept_by, changed-by, part_of}
+use Rattle.octets.proofs.CallLaws.{kept_by, changed-by}
+use Rattle.frame.proofs.CheckLaws.{found-data}
 use Rattle.octets.proofs.Tests.{and_left, and_right}
 use Rattle.frame.specs.declared.Addresses.{Addresses}
 use Rattle.frame.specs.declared.End.TheVariants as ends
@@ -150,8 +151,8 @@ module _ (a : Addresses) (t : ToolState) (b : List ℕ) (room_len : ℕ) (x : In
 
   -- the part that the code finds is its data
   pub arrival-data : (d : List ℕ) → d ≡ part_at x.place.start x.place.len b → d ≡ data_of a ends.Tool b
-  unfolding arrival_of data_of
-  arrival-data d = part_of x.place (data_place a ends.Tool b) b d (ap (λ (y : Incoming). y.place) is)
+  unfolding arrival_of
+  arrival-data = found-data a ends.Tool b x.place (ap (λ (y : Incoming). y.place) is)
 
   -- d is its data
   module _ (d : List ℕ) (data_is : d ≡ data_of a ends.Tool b) where

@@ -7,6 +7,8 @@ use native.Mathlib.Omega.{arith}
 use lib.Dec.{eqb}
 use Rattle.octets.specs.Buffer.{Bytes}
 use Rattle.octets.specs.declared.Place.{Place}
+use Rattle.octets.specs.declared.Part.{Part}
+use Rattle.octets.specs.Numbers.{part_of_place}
 use Rattle.fields.proofs.NumberLaws.{number_fits}
 use Rattle.octets.proofs.PartLaws.{bytes-part}
 use Rattle.octets.proofs.Tests.{never}
@@ -23,7 +25,7 @@ use Rattle.services.specs.declared.UnitState.{UnitState}
 use Rattle.services.specs.declared.Reaction.{Reaction}
 use Rattle.services.specs.declared.Reaction.TheVariants.{Ignored, CommunicationStarted, SessionOpened, RateOffered, RateChanged, UploadGranted}
 use Rattle.services.specs.declared.Reaction.TheVariants.{AnswerSent, AnswerStopped, TransferExited, CommunicationStopped, Negative}
-use Rattle.services.specs.State.{data_length_at}
+use Rattle.services.specs.State.{data_length}
 use Rattle.services.specs.Services.{request_name, answer_from}
 use Rattle.services.specs.After.{state_after}
 use Rattle.services.proofs.ReactionLaws.{sends_answer}
@@ -60,9 +62,9 @@ module _ (u : UnitState) (fits : Fits u.phase) where
   plain CommunicationStopped e = tt
   plain (Negative sid code) e = fits
 
-  sends : (name : AnswerName) (k : SubMessage) (place : Place) → name.day < 4294967296 → k.0 < 65536 → After (AnswerSent name k place)
+  sends : (name : AnswerName) (k : SubMessage) (part : Part) → name.day < 4294967296 → k.0 < 65536 → After (AnswerSent name k part)
   unfolding state_after
-  sends name k place d l = go (is_split (data_length_at place))
+  sends name k part d l = go (is_split (data_length part))
     where
       go : (t : Bool) → Fits (cond t (Sending name k) Granted)
       go true = (d, l)
@@ -81,16 +83,16 @@ module _ (u : UnitState) (fits : Fits u.phase) where
     unfolding answer_from
     first place = go (eqb place.number 0)
       where
-        go : (t : Bool) → After (cond t (AnswerSent (request_name (data_of a ends.Unit b)) (sub 1) place) (Negative 0x36 0xFA))
-        go true = sends (request_name (data_of a ends.Unit b)) (sub 1) place (asked-day (data_of a ends.Unit b) heard-bytes) (omega arith)
+        go : (t : Bool) → After (cond t (AnswerSent (request_name (data_of a ends.Unit b)) (sub 1) (part_of_place place)) (Negative 0x36 0xFA))
+        go true = sends (request_name (data_of a ends.Unit b)) (sub 1) (part_of_place place) (asked-day (data_of a ends.Unit b) heard-bytes) (omega arith)
         go false = plain (Negative 0x36 0xFA) refl
 
     reaction-fits : After (reaction_to a s u b)
     unfolding reaction_to
     reaction-fits =
         every-reaction After plain a (place_sent s u.phase) (place_asked s (data_of a ends.Unit b)) u b (first (place_asked s (data_of a ends.Unit b)))
-        (λ name last e. let f = sending-fits u.phase name last e fits in sends name last (place_sent s u.phase) f.0 f.1)
-        (λ name last e l. let f = sending-fits u.phase name last e fits in sends name (next_of last) (place_sent s u.phase) f.0 (omega arith))
+        (λ name last e. let f = sending-fits u.phase name last e fits in sends name last (part_of_place (place_sent s u.phase)) f.0 f.1)
+        (λ name last e l. let f = sending-fits u.phase name last e fits in sends name (next_of last) (part_of_place (place_sent s u.phase)) f.0 (omega arith))
 
     pub step_fits : (room : ℕ) → Fits (unit_state a s room u b).phase
     unfolding unit_state

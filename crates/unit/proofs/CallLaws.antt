@@ -17,7 +17,7 @@ use Rattle.frame.specs.Frame.{is_start, judged, data_of}
 use Rattle.catalog.specs.declared.AnswerName.{AnswerName}
 use Rattle.store.specs.Layout.{narrow}
 use Rattle.store.specs.Read.{lookup_place, lookup_both}
-use Rattle.store.specs.declared.TwoPlaces.{TwoPlaces}
+use Rattle.store.specs.Read.{TwoPlaces}
 use Rattle.services.specs.declared.Phase.{Phase}
 use Rattle.services.specs.declared.UnitState.{UnitState}
 use Rattle.services.specs.declared.Reaction.{Reaction}
@@ -25,8 +25,11 @@ use Rattle.services.specs.declared.Reaction.TheVariants.{Ignored, CommunicationS
 use Rattle.services.specs.State.{is_closed, name_sent, possible_at}
 use Rattle.services.specs.Services.{name_asked, on_data}
 use Rattle.services.specs.After.{state_after}
-use Rattle.unit.specs.declared.UnitReply.{UnitReply}
+use Rattle.unit.specs.Call.{UnitReply}
 use Rattle.unit.specs.State.{possible}
+use Rattle.frame.specs.Given.{different}
+use Rattle.frame.proofs.GivenLaws.{at-different}
+use Rattle.unit.specs.Call.{unit_result_given, unit_out_given}
 use Rattle.unit.specs.Call.{reaction_at, reaction_to, reply_data, reply_to, number_before, unit_number, unit_state, unit_reply, unit_result, unit_out}
 use Rattle.unit.specs.Piece.{piece_sent}
 use Rattle.unit.proofs.SentLaws.{sends-what-is}
@@ -78,6 +81,11 @@ pub found-by : (s : List ℕ) (found : TwoPlaces) (sent asked : AnswerName) (pha
     → found ≡ lookup_both narrow (name_sent phase) (name_asked d) s
 found-by s found sent asked phase d e p q = e ∙ rw (p, q)
 
+-- a broken store comes first
+pub broken-before : (broken : ℕ) (is_possible : Bool) (room : ℕ) → (broken ≡ 0 → ⊥) → broken ≡ number_before broken is_possible room
+unfolding number_before
+broken-before broken is_possible room z = rw (ne_eqb broken 0 z)
+
 -- The call on the data d of the frame b; found is what the store gave for the answer that is being sent and the one asked for
 module _ (a : Addresses) (s : List ℕ) (u : UnitState) (b d : List ℕ) (found : TwoPlaces)
     (given : found ≡ lookup_both narrow (name_sent u.phase) (name_asked d) s) where
@@ -96,7 +104,7 @@ module _ (a : Addresses) (s : List ℕ) (u : UnitState) (b d : List ℕ) (found 
     refused-number : (n ≡ 0 → ⊥) → unit_number a s room u b ≡ n
     refused-number z = sym numbered ∙ rw (ne_eqb n 0 z)
 
-    pub result-refused : (n ≡ 0 → ⊥) → ◌≡◌ {A = UnitReply} (record { number = n; state = u; len = 0 }) (unit_result a s room u b)
+    result-refused : (n ≡ 0 → ⊥) → ◌≡◌ {A = UnitReply} (record { number = n; state = u; len = 0 }) (unit_result a s room u b)
     unfolding unit_result unit_state unit_reply
     result-refused z = rw (refused-number z, ne_eqb n 0 z)
 
@@ -118,7 +126,7 @@ module _ (a : Addresses) (s : List ℕ) (u : UnitState) (b d : List ℕ) (found 
         unfolding reaction_to
         reaction-is = rw (reacts, given, data_is)
 
-        pub accepted-piece : piece_sent s x ≡ 0
+        accepted-piece : piece_sent s x ≡ 0
         accepted-piece =
             rw reaction-is
             (held-piece a s u (reaction_to a s u b) (eqb k 0)
@@ -132,7 +140,7 @@ module _ (a : Addresses) (s : List ℕ) (u : UnitState) (b d : List ℕ) (found 
           unfolding unit_reply
           replied = rw (reaction-is, accepted-number, held-reply a s u (reaction_to a s u b) (eqb k 0))
 
-          pub result-done : (v : UnitState) (l : ℕ) → v ≡ state_after u x → l ≡ length (reply_to a (reply_data s x))
+          result-done : (v : UnitState) (l : ℕ) → v ≡ state_after u x → l ≡ length (reply_to a (reply_data s x))
               → ◌≡◌ {A = UnitReply} (record { number = k; state = v; len = l }) (unit_result a s room u b)
           unfolding unit_result unit_state
           result-done v l e f =
@@ -140,12 +148,56 @@ module _ (a : Addresses) (s : List ℕ) (u : UnitState) (b d : List ℕ) (found 
 
   -- the buffer o after it
   module _ (n : ℕ) (o : List ℕ) (number : n ≡ number_before found.number (possible_at found.first u) (length o)) where
-    pub out-refused : (n ≡ 0 → ⊥) → o ≡ unit_out a s u b o
+    out-refused : (n ≡ 0 → ⊥) → o ≡ unit_out a s u b o
     unfolding unit_out unit_reply front
     out-refused z = rw (refused-number n (length o) number z, ne_eqb n 0 z)
 
-    pub out-done : (k : ℕ) (x : Reaction) (o' : List ℕ) → n ≡ 0 → x ≡ changed_by k (reaction_at a found.first found.second u b) Ignored
+    out-done : (k : ℕ) (x : Reaction) (o' : List ℕ) → n ≡ 0 → x ≡ changed_by k (reaction_at a found.first found.second u b) Ignored
         → d ≡ data_of a ends.Unit b → k ≡ judged a ends.Unit b
         → o' ≡ front (reply_to a (reply_data s x)) o → o' ≡ unit_out a s u b o
     unfolding unit_out
     out-done k x o' zero reacts data_is judging e = e ∙ ap (λ (r : List ℕ). front r o) (replied n (length o) number zero k x reacts data_is judging)
+
+  -- The call at two different addresses: what it hands back at each return, and the buffer o' then
+
+  module _ (apart : different a ≡ true) (o : List ℕ) where
+    result-given : (r : UnitReply) → r ≡ unit_result a s (length o) u b → r ≡ unit_result_given a s (length o) u b
+    unfolding unit_result_given
+    result-given r e = e ∙ sym (at-different a _ _ apart)
+
+    out-given : (o' : List ℕ) → o' ≡ unit_out a s u b o → o' ≡ unit_out_given a s u b o
+    unfolding unit_out_given
+    out-given o' e = e ∙ sym (at-different a _ _ apart)
+
+    -- refused by n, the number of the store, 11 or 4
+    module _ (n : ℕ) (number : n ≡ number_before found.number (possible_at found.first u) (length o)) (z : n ≡ 0 → ⊥) where
+      pub before-result : ◌≡◌ {A = UnitReply} (record { number = n; state = u; len = 0 }) (unit_result_given a s (length o) u b)
+      before-result = result-given _ (result-refused n (length o) number z)
+
+      pub before-out : o ≡ unit_out_given a s u b o
+      before-out = out-given o (out-refused n o number z)
+
+    -- not refused by one of them; k is the number of the frame, whose data is d
+    module _ (number : 0 ≡ number_before found.number (possible_at found.first u) (length o)) (data_is : d ≡ data_of a ends.Unit b) where
+      module _ (k : ℕ) (judging : k ≡ judged a ends.Unit b) (z : k ≡ 0 → ⊥) where
+        silent : Ignored ≡ changed_by k (reaction_at a found.first found.second u b) Ignored
+        silent = rw (ne_eqb k 0 z)
+
+        pub frame-result : ◌≡◌ {A = UnitReply} (record { number = k; state = u; len = 0 }) (unit_result_given a s (length o) u b)
+        unfolding state_after reply_to reply_data
+        frame-result = result-given _ (result-done 0 (length o) number refl k Ignored silent data_is judging u 0 refl refl)
+
+        pub frame-out : o ≡ unit_out_given a s u b o
+        unfolding reply_to reply_data front
+        frame-out = out-given o (out-done 0 o number k Ignored o refl silent data_is judging refl)
+
+      module _ (judging : 0 ≡ judged a ends.Unit b) (x : Reaction) (reacts : x ≡ reaction_at a found.first found.second u b) where
+        pub done-piece : piece_sent s x ≡ 0
+        done-piece = accepted-piece 0 (length o) number refl 0 x reacts data_is
+
+        pub done-result : (v : UnitState) (l : ℕ) → v ≡ state_after u x → l ≡ length (reply_to a (reply_data s x))
+            → ◌≡◌ {A = UnitReply} (record { number = 0; state = v; len = l }) (unit_result_given a s (length o) u b)
+        done-result v l e f = result-given _ (result-done 0 (length o) number refl 0 x reacts data_is judging v l e f)
+
+        pub done-out : (o' : List ℕ) → o' ≡ front (reply_to a (reply_data s x)) o → o' ≡ unit_out_given a s u b o
+        done-out o' e = out-given o' (out-done 0 o number 0 x o' refl reacts data_is judging e)

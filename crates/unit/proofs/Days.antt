@@ -7,6 +7,8 @@ use lib.Dec.{eqb, leb}
 use lib.ListN.{length, get_or}
 use Rattle.octets.specs.Numbers.{changed_by}
 use Rattle.octets.specs.declared.Place.{Place}
+use Rattle.octets.specs.declared.Part.{Part}
+use Rattle.octets.specs.Numbers.{part_of_place}
 use Rattle.fields.specs.BigEndian.{number_at}
 use Rattle.frame.specs.declared.Addresses.{Addresses}
 use Rattle.frame.specs.declared.End.TheVariants as ends
@@ -29,7 +31,7 @@ use Rattle.services.specs.declared.Reaction.TheVariants.{Ignored, CommunicationS
 use Rattle.services.specs.declared.Reaction.TheVariants.{UploadGranted, AnswerSent, AnswerStopped, TransferExited}
 use Rattle.services.specs.declared.Reaction.TheVariants.{CommunicationStopped, Negative}
 use Rattle.services.specs.declared.UnitState.{UnitState}
-use Rattle.services.specs.State.{name_sent, data_length_at, phase_possible, possible_at}
+use Rattle.services.specs.State.{name_sent, data_length, phase_possible, possible_at}
 use Rattle.services.specs.Services.{on_rate_offer, on_rate_change, on_link_control, on_upload, on_transfer, on_exit, on_code, on_sending, on_acknowledge, name_asked, on_data}
 use Rattle.services.specs.After.{state_after}
 use Rattle.services.proofs.Days.{day-claims as service-days}
@@ -59,7 +61,7 @@ both true x y x' y' p q = p
 both false x y x' y' p q = q
 
 -- an answer sent under two names that are kept as one
-pub sent-alike : (name other : AnswerName) (k : SubMessage) (place : Place) → rounded name ≡ rounded other
+pub sent-alike : (name other : AnswerName) (k : SubMessage) (place : Part) → rounded name ≡ rounded other
     → rounded_reaction (AnswerSent name k place) ≡ rounded_reaction (AnswerSent other k place)
 unfolding rounded_reaction
 sent-alike name other k place e = rw e
@@ -95,7 +97,7 @@ after-rounded u SessionOpened = refl
 after-rounded u (RateOffered r) = rw (phase-again u.phase)
 after-rounded u RateChanged = rw (phase-again u.phase)
 after-rounded u UploadGranted = refl
-after-rounded u (AnswerSent name k place) = rw (go (is_split (data_length_at place)))
+after-rounded u (AnswerSent name k place) = rw (go (is_split (data_length place)))
   where
     go : (t : Bool) → rounded_phase (cond t (Sending (rounded name) k) Granted) ≡ rounded_phase (cond t (Sending name k) Granted)
     go true = rw (rounded-again name)
@@ -111,19 +113,19 @@ place-rounded : (store : List ℕ) (name : AnswerName) → lookup_place narrow (
 place-rounded store name = (store-days narrow).alike (rounded name) name store (rounded-again name)
 
 module _ (name : AnswerName) (last : SubMessage) where
-  code-rounded : (place : Place) (c : AckCode) → rounded_reaction (on_code (rounded name) last place c) ≡ rounded_reaction (on_code name last place c)
+  code-rounded : (place : Part) (c : AckCode) → rounded_reaction (on_code (rounded name) last place c) ≡ rounded_reaction (on_code name last place c)
   unfolding on_code
   code-rounded place c =
       both (same_code c (repeat_of last)) _ _ _ _ (sent-alike (rounded name) name last place (rounded-again name))
       (both (same_code c (acknowledge_of last)) _ _ _ _
-      (both (leb (last.0 + 1) (count_of (data_length_at place))) _ _ _ _ (sent-alike (rounded name) name (next_of last) place (rounded-again name)) refl)
+      (both (leb (last.0 + 1) (count_of (data_length place))) _ _ _ _ (sent-alike (rounded name) name (next_of last) place (rounded-again name)) refl)
       refl)
 
   acknowledge-rounded : (place : Place) (d : List ℕ)
       → rounded_reaction (on_acknowledge (Sending (rounded name) last) place d) ≡ rounded_reaction (on_acknowledge (Sending name last) place d)
   unfolding on_acknowledge on_sending
   acknowledge-rounded place d =
-      both (eqb (length d) 4) _ _ _ _ (both (eqb (get_or d 1 0) 0x76) _ _ _ _ (code-rounded place (code (number_at 2 2 d))) refl) refl
+      both (eqb (length d) 4) _ _ _ _ (both (eqb (get_or d 1 0) 0x76) _ _ _ _ (code-rounded (part_of_place place) (code (number_at 2 2 d))) refl) refl
 
 abbrev unit_at : ℕ → ℕ → ℕ → Phase → UnitState
 unit_at kind rate pending phase = record { kind = kind; rate = rate; pending = pending; phase = phase }

@@ -9,7 +9,7 @@ use lib.ListN.{length, take, drop, length-drop}
 use lib.Seq.{take_all}
 use borrow.Author.Tests.{le-leb, leb-true}
 use Rattle.octets.specs.Buffer.{part_at, front}
-use Rattle.octets.specs.declared.Place.{Place}
+use Rattle.octets.specs.declared.Part.{Part}
 use Rattle.octets.proofs.OrderLaws.{unless-is}
 use Rattle.octets.proofs.Tests.{and_left, and_right}
 use Rattle.octets.proofs.BufferLaws.{length_part}
@@ -64,12 +64,12 @@ module _ (a : Addresses) (trep k : ℕ) (d o : List ℕ) (such : piece_number (l
   sub_out_lem o' e = rw (e, sub-fits, reply-is a (sub_field trep k d) sub-some)
 
 -- the same with the data of the answer that lies at a place of the store, behind 76 and TREP
-pub record PieceAt (s : List ℕ) (k : ℕ) (place : Place) : Type 0 where
+pub record PieceAt (s : List ℕ) (k : ℕ) (place : Part) : Type 0 where
   pub two : 2 ≤ place.len
   pub inside : place.start + place.len ≤ length s
   pub such : piece_number (place.len - 2) k ≡ 0
 
-pub piece-at : (s : List ℕ) (k : ℕ) (place : Place) → piece_at s k place ≡ 0 → PieceAt s k place
+pub piece-at : (s : List ℕ) (k : ℕ) (place : Part) → piece_at s k place ≡ 0 → PieceAt s k place
 unfolding piece_at
 piece-at s k place z =
     let h = unless-is (leb 2 place.len && leb (place.start + place.len) (length s)) 6 _ 0 refl z in
@@ -79,7 +79,7 @@ piece-at s k place z =
       such = h.rest;
     }
 
-module _ (a : Addresses) (trep k : ℕ) (place : Place) (s d o : List ℕ)
+module _ (a : Addresses) (trep k : ℕ) (place : Part) (s d o : List ℕ)
     (part : d ≡ take (place.start + place.len - (place.start + 2)) (drop (place.start + 2) s)) (at : piece_at s k place ≡ 0) (room : 260 ≤ length o) where
   there : PieceAt s k place
   there = piece-at s k place at
@@ -113,7 +113,7 @@ module _ (a : Addresses) (s : List ℕ) (x y : Reaction) (is : x ≡ y) where
   pub reply-out : (o o' : List ℕ) → o' ≡ front (reply_to a (reply_data s y)) o → o' ≡ front (reply_to a (reply_data s x)) o
   reply-out o o' q = rw is q
 
-pub piece-there : (s : List ℕ) (x : Reaction) (name : AnswerName) (k : SubMessage) (place : Place) → x ≡ AnswerSent name k place → piece_sent s x ≡ 0
+pub piece-there : (s : List ℕ) (x : Reaction) (name : AnswerName) (k : SubMessage) (place : Part) → x ≡ AnswerSent name k place → piece_sent s x ≡ 0
     → piece_at s k.0 place ≡ 0
 unfolding piece_sent
 piece-there s x name k place e z = rw e at z

@@ -8,6 +8,8 @@ use lib.Dec.{eqb, ltb, leb}
 use lib.ListN.{length}
 use borrow.Author.Tests.{le-leb, eqb-true}
 use Rattle.octets.specs.declared.Place.{Place}
+use Rattle.octets.specs.declared.Part.{Part}
+use Rattle.octets.specs.Numbers.{part_of_place}
 use Rattle.octets.proofs.Tests.{and_right, never}
 use Rattle.frame.specs.declared.Addresses.{Addresses}
 use Rattle.frame.specs.declared.End.TheVariants as ends
@@ -39,9 +41,9 @@ use Rattle.unit.proofs.StoreFacts.{InStore, found_in}
 -- from a code
 module _ (P : Reaction → Type 0) (plain : (x : Reaction) → sends_answer x ≡ false → P x) where
   pub every-reaction : (a : Addresses) (sent asked : Place) (u : UnitState) (b : List ℕ) → P (answer_from (request_name (data_of a ends.Unit b)) (sub 1) asked)
-      → ((name : AnswerName) (last : SubMessage) → u.phase ≡ Sending name last → P (AnswerSent name last sent))
+      → ((name : AnswerName) (last : SubMessage) → u.phase ≡ Sending name last → P (AnswerSent name last (part_of_place sent)))
       → ((name : AnswerName) (last : SubMessage) → u.phase ≡ Sending name last → last.0 + 1 ≤ count_of (data_length_at sent)
-      → P (AnswerSent name (next_of last) sent))
+      → P (AnswerSent name (next_of last) (part_of_place sent)))
       → P (reaction_at a sent asked u b)
   unfolding reaction_at
   every-reaction a sent asked u b first again next =
@@ -62,11 +64,11 @@ module _ (s : List ℕ) where
   data-most i = omega (arith, i.most)
 
   -- a sub message of an answer that lies in the store
-  piece-in : (place : Place) (k : ℕ) → InStore s place.start place.len → 1 ≤ k → k ≤ count_of (place.len - 2) → piece_at s k place ≡ 0
+  piece-in : (part : Part) (k : ℕ) → InStore s part.start part.len → 1 ≤ k → k ≤ count_of (part.len - 2) → piece_at s k part ≡ 0
   unfolding piece_at
-  piece-in place k i f l =
-      rw (le-leb 2 place.len i.two, le-leb (place.start + place.len) (length s) i.inside)
-      (piece-zero (place.len - 2) k (data-most i) f l)
+  piece-in part k i f l =
+      rw (le-leb 2 part.len i.two, le-leb (part.start + part.len) (length s) i.inside)
+      (piece-zero (part.len - 2) k (data-most i) f l)
 
   no-piece : (x : Reaction) → sends_answer x ≡ false → piece_sent s x ≡ 0
   unfolding piece_sent
@@ -88,9 +90,9 @@ module _ (s : List ℕ) where
   first-sent name asked = go (eqb (lookup_place narrow asked s).number 0) refl
     where
       go : (t : Bool) → eqb (lookup_place narrow asked s).number 0 ≡ t
-          → piece_sent s (cond t (AnswerSent name (sub 1) (lookup_place narrow asked s)) (Negative 0x36 0xFA)) ≡ 0
+          → piece_sent s (cond t (AnswerSent name (sub 1) (part_of_place (lookup_place narrow asked s))) (Negative 0x36 0xFA)) ≡ 0
       go true e =
-          piece-in (lookup_place narrow asked s) 1 (found_in s asked (eqb-true _ _ e)) (omega arith) (count-some _)
+          piece-in (part_of_place (lookup_place narrow asked s)) 1 (found_in s asked (eqb-true _ _ e)) (omega arith) (count-some _)
       go false e = refl
 
   -- what is known of the answer that is being sent
@@ -103,9 +105,9 @@ module _ (s : List ℕ) where
     sent-in = found_in s (name_sent u.phase) sendable-now.held
 
     sent_piece : (k : SubMessage) → 1 ≤ k.0 → k.0 ≤ count_of (data_length_at (place_sent s u.phase))
-        → piece_sent s (AnswerSent name k (place_sent s u.phase)) ≡ 0
+        → piece_sent s (AnswerSent name k (part_of_place (place_sent s u.phase))) ≡ 0
     unfolding piece_sent
-    sent_piece k f l = piece-in (place_sent s u.phase) k.0 sent-in f l
+    sent_piece k f l = piece-in (part_of_place (place_sent s u.phase)) k.0 sent-in f l
 
     -- a number among the sub messages goes on without wrapping
     next-is : last.0 + 1 ≤ count_of (data_length_at (place_sent s u.phase)) → (next_of last).0 ≡ last.0 + 1

@@ -4,6 +4,10 @@ use Rattle.octets.specs.Order.{unless, or_else}
 use Rattle.octets.specs.Numbers.{done, format_or_address, buffer_short, out_of_turn, changed_by}
 use Rattle.octets.specs.Buffer.{part_at, front}
 use Rattle.octets.specs.declared.Place.{Place}
+use Rattle.octets.specs.declared.Part.{Part}
+use Rattle.octets.specs.declared.refusal.Refusal.{Refusal}
+use Rattle.octets.specs.Numbers.{number}
+use Rattle.std.specs.Prelude.{Result, Ok, Err}
 use Rattle.frame.specs.declared.Addresses.{Addresses}
 use Rattle.frame.specs.declared.End.TheVariants as ends
 use Rattle.frame.specs.Frame.{frame_most, frame_of, is_start, judged, data_of}
@@ -21,7 +25,7 @@ use Rattle.services.specs.declared.Reaction.TheVariants.{TransferExited, Communi
 use Rattle.services.specs.State.{is_closed}
 use Rattle.services.specs.Services.{name_asked, on_data}
 use Rattle.services.specs.After.{state_after}
-use Rattle.unit.specs.declared.UnitReply.{UnitReply}
+use Rattle.unit.specs.declared.Step.{Step}
 use Rattle.unit.specs.State.{place_sent, possible}
 
 -- where the answer lies that a frame's data asks for
@@ -40,9 +44,9 @@ unfoldable pub reaction_to : Addresses → List ℕ → UnitState → List ℕ �
 reaction_to a store u b =
     reaction_at a (place_sent store u.phase) (place_asked store (data_of a ends.Unit b)) u b
 
--- the data of the answer at a place of the store, behind 76 and TREP
-abbrev pub data_in : List ℕ → Place → List ℕ
-data_in store place = drop 2 (part_at place.start place.len store)
+-- the data of the answer that is this part of the store, behind 76 and TREP
+abbrev pub data_in : List ℕ → Part → List ℕ
+data_in store part = drop 2 (part_at part.start part.len store)
 
 -- the column "Reply": the data of the reply, none for silence
 unfoldable pub reply_data : List ℕ → Reaction → List ℕ
@@ -52,7 +56,7 @@ reply_data store SessionOpened = session_reply
 reply_data store (RateOffered r) = rate_reply
 reply_data store RateChanged = []
 reply_data store UploadGranted = upload_reply
-reply_data store (AnswerSent name k place) = sub_field name.trep k.0 (data_in store place)
+reply_data store (AnswerSent name k part) = sub_field name.trep k.0 (data_in store part)
 reply_data store AnswerStopped = []
 reply_data store TransferExited = exit_reply
 reply_data store CommunicationStopped = stop_reply
@@ -86,7 +90,18 @@ unfoldable pub unit_reply : Addresses → List ℕ → ℕ → UnitState → Lis
 unit_reply a store out_len u b =
     changed_by (unit_number a store out_len u b) (reply_to a (reply_data store (reaction_to a store u b))) []
 
--- what the call hands back, and the reply buffer at exit: "A reply of m bytes changes only the first m of its buffer;
+-- what the call hands back: "Each returns its number with the state as handed in"
+pub record UnitReply : Type 0 where
+  pub number : ℕ
+  pub state : UnitState
+  pub len : ℕ
+
+-- the same as the code has it, for the state handed in
+abbrev pub stepped : UnitState → Result Step Refusal → UnitReply
+stepped u (Ok step) = record { number = done; state = step.state; len = step.len }
+stepped u (Err refusal) = record { number = number refusal; state = u; len = 0 }
+
+-- and the reply buffer at exit: "A reply of m bytes changes only the first m of its buffer;
 -- silence changes none"
 unfoldable pub unit_result : Addresses → List ℕ → ℕ → UnitState → List ℕ → UnitReply
 unit_result a store out_len u b =

@@ -7,11 +7,10 @@ mod reply;
 
 use services::UnitState;
 
-// What a call hands back: refused, the state handed in and no reply; else the next state and the reply's length, 0 for
-// silence.
-#[derive(Clone, Copy)]
-pub struct UnitReply {
-    pub number: u8,
+// What a call hands back: the next state and the reply's length, 0 for silence. Refused, the state stays and there is no
+// reply.
+#[derive(Clone, Copy, Debug, PartialEq, Eq)]
+pub struct Step {
     pub state: UnitState,
     pub len: usize,
 }

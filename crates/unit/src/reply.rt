@@ -8,7 +8,7 @@ ghost use Rattle.unit.specs.Piece.{piece_at, piece_sent};
 
 use frame::messages::{EXITED, RATE_OFFERED, SESSION_OPENED, STARTED, STOPPED, UPLOAD_GRANTED};
 use frame::{Addresses, End};
-use octets::Place;
+use octets::Part;
 use octets::wire::NEGATIVE;
 use services::Reaction;
 use split::SubMessage;
@@ -20,30 +20,30 @@ fn send(addresses: Addresses, data: &[u8], reply: &mut [u8]) -> usize
     ensures value { result ≡ length (reply_to addresses «data».now) }
     ensures reply_after { reply.new ≡ front (reply_to addresses «data».now) reply.old }
 {
-    frame::write::write(addresses, data, End::Tool, reply).len
+    frame::write::write(addresses, data, End::Tool, reply).unwrap_or(0)
 }
 
-// A sub message of the answer at this place. Its data lies behind 76 and TREP.
+// A sub message of the answer that is this part of the store. Its data lies behind 76 and TREP.
 fn send_answer(
     addresses: Addresses,
     store: &[u8],
     trep: u8,
     message: SubMessage,
-    place: Place,
+    answer: Part,
     reply: &mut [u8],
 ) -> usize
-    requires place_value { piece_at store.now message.0 place ≡ 0 }
+    requires answer_value { piece_at store.now message.0 answer ≡ 0 }
     requires frame_most_in_bounds { frame_most ≤ length reply.old }
-    ensures value { result ≡ length (reply_to addresses (sub_field trep message.0 (data_in store.now place))) }
+    ensures value { result ≡ length (reply_to addresses (sub_field trep message.0 (data_in store.now answer))) }
     ensures reply_after { reply.new
-        ≡ front (reply_to addresses (sub_field trep message.0 (data_in store.now place)))
+        ≡ front (reply_to addresses (sub_field trep message.0 (data_in store.now answer)))
         reply.old }
 {
-    let start = place.start;
+    let start = answer.start;
     let first = start + 2;
-    let end = start + place.len;
+    let end = start + answer.len;
     let data = &store[first..end];
-    split::write::write_sub_message(addresses, data, trep, message, reply).len
+    split::write::write_sub_message(addresses, data, trep, message, reply).unwrap_or(0)
 }
 
 // The reply to a good frame at the front of `reply`, and its length: 0 for silence.
@@ -66,8 +66,8 @@ pub(crate) fn write_reply(
         Reaction::RateOffered(_) => send(addresses, &RATE_OFFERED, reply),
         Reaction::RateChanged => 0,
         Reaction::UploadGranted => send(addresses, &UPLOAD_GRANTED, reply),
-        Reaction::AnswerSent(name, message, place) => {
-            send_answer(addresses, store, name.trep, message, place, reply)
+        Reaction::AnswerSent(name, message, answer) => {
+            send_answer(addresses, store, name.trep, message, answer, reply)
         }
         Reaction::AnswerStopped => 0,
         Reaction::TransferExited => send(addresses, &EXITED, reply),

@@ -1,41 +1,99 @@
--- Equal addresses; else the two names are looked up, and the rest is that call.
-use Rattle.frame.proofs.CheckLaws.{place-number, place-within, place-data}
-use Rattle.frame.proofs.GivenLaws.{given}
+-- Equal addresses; a broken store; 11 or 4; the frame's number; else the reaction says the rest.
+use Rattle.std.proofs.Common.{rules, sym, refl}
+use Rattle.octets.proofs.CallLaws.{refused-number}
+use Rattle.frame.specs.declared.End.TheVariants as ends
+use Rattle.frame.proofs.CheckLaws.{place-number, found-data}
+use Rattle.frame.proofs.GivenLaws.{given, passed-different}
 use Rattle.unit.specs.Call.{unit_result_given, unit_out_given}
-use Rattle.unit.proofs.CallLaws.{found-by}
-use Rattle.std.proofs.Common.{rules}
+use Rattle.unit.proofs.CallLaws.{found-by, broken-before, accepted-room, before-result, before-out, frame-result, frame-out, done-piece, done-result, done-out}
 use Rattle.unit.proofs.call.step.Goals as goal
 
-ruleset all = (rules, given, place-number, place-data, found-by)
+ruleset equal = (rules, given, refused-number)
 
-pub overflow_add-end : goal.overflow_add-end
+pub returns-in_err-differ-clause-value : goal.returns-in_err-differ-clause-value
 unfolding unit_result_given unit_out_given
-overflow_add-end c = let within = place-within _ _ _ _ c.locate-place.ensures in search rules
+returns-in_err-differ-clause-value c = search equal
 
-pub slice_bounds-data-end : goal.slice_bounds-data-end
+pub returns-in_err-differ-clause-reply_after : goal.returns-in_err-differ-clause-reply_after
 unfolding unit_result_given unit_out_given
-slice_bounds-data-end c = let within = place-within _ _ _ _ c.locate-place.ensures in search rules
+returns-in_err-differ-clause-reply_after c = search equal
 
-pub returns-then-addresses-clause-value : goal.returns-then-addresses-clause-value
-unfolding unit_result_given unit_out_given
-returns-then-addresses-clause-value c = search all
+pub returns-in_err-held-clause-value : goal.returns-in_err-held-clause-value
+returns-in_err-held-clause-value c =
+    let apart = passed-different _ c.in_ok-differ.ensures in
+    let looked = found-by _ _ _ _ c.args.state.phase c.found-data.result.now c.in_err-held.ensures c.name_sent.ensures c.name_asked.ensures in
+    let before = before-result c.args.addresses _ c.args.state c.args.frame.now c.found-data.result.now _ looked apart c.args.reply.now _ (broken-before _ _ _ (refused-number _)) (refused-number _) in
+    search rules
 
-pub returns-then-addresses-clause-reply_after : goal.returns-then-addresses-clause-reply_after
-unfolding unit_result_given unit_out_given
-returns-then-addresses-clause-reply_after c = search all
+pub returns-in_err-held-clause-reply_after : goal.returns-in_err-held-clause-reply_after
+returns-in_err-held-clause-reply_after c =
+    let apart = passed-different _ c.in_ok-differ.ensures in
+    let looked = found-by _ _ _ _ c.args.state.phase c.found-data.result.now c.in_err-held.ensures c.name_sent.ensures c.name_asked.ensures in
+    before-out c.args.addresses _ c.args.state c.args.frame.now c.found-data.result.now _ looked apart c.args.reply.now _ (broken-before _ _ _ (refused-number _)) (refused-number _)
 
-pub answer-requires-clause-number_value : goal.answer-requires-clause-number_value
-unfolding unit_result_given unit_out_given
-answer-requires-clause-number_value c = search all
+pub returns-in_err-check_before-clause-value : goal.returns-in_err-check_before-clause-value
+returns-in_err-check_before-clause-value c =
+    let apart = passed-different _ c.in_ok-differ.ensures in
+    let looked = found-by _ _ _ _ c.args.state.phase c.found-data.result.now c.in_ok-held.ensures c.name_sent.ensures c.name_asked.ensures in
+    let before = before-result c.args.addresses _ c.args.state c.args.frame.now c.found-data.result.now _ looked apart c.args.reply.now _ c.in_err-check_before.ensures (refused-number _) in
+    search rules
 
-pub answer-requires-clause-data_value : goal.answer-requires-clause-data_value
-unfolding unit_result_given unit_out_given
-answer-requires-clause-data_value c = search all
+pub returns-in_err-check_before-clause-reply_after : goal.returns-in_err-check_before-clause-reply_after
+returns-in_err-check_before-clause-reply_after c =
+    let apart = passed-different _ c.in_ok-differ.ensures in
+    let looked = found-by _ _ _ _ c.args.state.phase c.found-data.result.now c.in_ok-held.ensures c.name_sent.ensures c.name_asked.ensures in
+    before-out c.args.addresses _ c.args.state c.args.frame.now c.found-data.result.now _ looked apart c.args.reply.now _ c.in_err-check_before.ensures (refused-number _)
+
+pub returns-in_err-located-clause-value : goal.returns-in_err-located-clause-value
+returns-in_err-located-clause-value c =
+    let apart = passed-different _ c.in_ok-differ.ensures in
+    let looked = found-by _ _ _ _ c.args.state.phase c.found-data.result.now c.in_ok-held.ensures c.name_sent.ensures c.name_asked.ensures in
+    let data_is = found-data _ ends.Unit _ _ c.locate-located.ensures _ c.found-data.ensures in
+    let judging = place-number _ ends.Unit _ _ c.in_err-located.ensures in
+    let silent = frame-result c.args.addresses _ c.args.state c.args.frame.now c.found-data.result.now _ looked apart c.args.reply.now c.in_ok-check_before.ensures data_is _ judging (refused-number _) in
+    search rules
+
+pub returns-in_err-located-clause-reply_after : goal.returns-in_err-located-clause-reply_after
+returns-in_err-located-clause-reply_after c =
+    let apart = passed-different _ c.in_ok-differ.ensures in
+    let looked = found-by _ _ _ _ c.args.state.phase c.found-data.result.now c.in_ok-held.ensures c.name_sent.ensures c.name_asked.ensures in
+    let data_is = found-data _ ends.Unit _ _ c.locate-located.ensures _ c.found-data.ensures in
+    let judging = place-number _ ends.Unit _ _ c.in_err-located.ensures in
+    frame-out c.args.addresses _ c.args.state c.args.frame.now c.found-data.result.now _ looked apart c.args.reply.now c.in_ok-check_before.ensures data_is _ judging (refused-number _)
+
+pub on_good-reaction-requires-clause-frame_value : goal.on_good-reaction-requires-clause-frame_value
+on_good-reaction-requires-clause-frame_value c = sym (place-number _ ends.Unit _ _ c.in_ok-located.ensures)
+
+pub on_good-reaction-requires-clause-data_value : goal.on_good-reaction-requires-clause-data_value
+on_good-reaction-requires-clause-data_value c = found-data _ ends.Unit _ _ c.locate-located.ensures _ c.found-data.ensures
+
+pub write_reply-len-requires-clause-reaction_value : goal.write_reply-len-requires-clause-reaction_value
+write_reply-len-requires-clause-reaction_value c =
+    let apart = passed-different _ c.in_ok-differ.ensures in
+    let looked = found-by _ _ _ _ c.args.state.phase c.found-data.result.now c.in_ok-held.ensures c.name_sent.ensures c.name_asked.ensures in
+    let data_is = found-data _ ends.Unit _ _ c.locate-located.ensures _ c.found-data.ensures in
+    let judging = place-number _ ends.Unit _ _ c.in_ok-located.ensures in
+    done-piece c.args.addresses _ c.args.state c.args.frame.now c.found-data.result.now _ looked apart c.args.reply.now c.in_ok-check_before.ensures data_is judging _ c.on_good-reaction.ensures
+
+pub write_reply-len-requires-clause-frame_most_in_bounds : goal.write_reply-len-requires-clause-frame_most_in_bounds
+write_reply-len-requires-clause-frame_most_in_bounds c =
+    let looked = found-by _ _ _ _ c.args.state.phase c.found-data.result.now c.in_ok-held.ensures c.name_sent.ensures c.name_asked.ensures in
+    accepted-room c.args.addresses _ c.args.state c.args.frame.now c.found-data.result.now _ looked _ _ c.in_ok-check_before.ensures refl
 
 pub returns-clause-value : goal.returns-clause-value
-unfolding unit_result_given unit_out_given
-returns-clause-value c = search all
+returns-clause-value c =
+    let apart = passed-different _ c.in_ok-differ.ensures in
+    let looked = found-by _ _ _ _ c.args.state.phase c.found-data.result.now c.in_ok-held.ensures c.name_sent.ensures c.name_asked.ensures in
+    let data_is = found-data _ ends.Unit _ _ c.locate-located.ensures _ c.found-data.ensures in
+    let judging = place-number _ ends.Unit _ _ c.in_ok-located.ensures in
+    done-result c.args.addresses _ c.args.state c.args.frame.now c.found-data.result.now _ looked apart c.args.reply.now c.in_ok-check_before.ensures data_is judging _ c.on_good-reaction.ensures
+    _ _ c.state_after-after.ensures c.write_reply-len.ensures.value
 
 pub returns-clause-reply_after : goal.returns-clause-reply_after
-unfolding unit_result_given unit_out_given
-returns-clause-reply_after c = search all
+returns-clause-reply_after c =
+    let apart = passed-different _ c.in_ok-differ.ensures in
+    let looked = found-by _ _ _ _ c.args.state.phase c.found-data.result.now c.in_ok-held.ensures c.name_sent.ensures c.name_asked.ensures in
+    let data_is = found-data _ ends.Unit _ _ c.locate-located.ensures _ c.found-data.ensures in
+    let judging = place-number _ ends.Unit _ _ c.in_ok-located.ensures in
+    done-out c.args.addresses _ c.args.state c.args.frame.now c.found-data.result.now _ looked apart c.args.reply.now c.in_ok-check_before.ensures data_is judging _ c.on_good-reaction.ensures
+    _ c.write_reply-len.ensures.reply_after

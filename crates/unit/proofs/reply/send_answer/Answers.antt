@@ -6,19 +6,19 @@ use Rattle.unit.proofs.reply.send_answer.Goals as goal
 ruleset all = (rules, answer-length, answer-out)
 
 pub overflow_add-first : goal.overflow_add-first
-overflow_add-first c = let there = piece-at _ _ _ c.requires.place_value in let two = there.two in let inside = there.inside in search rules
+overflow_add-first c = let there = piece-at _ _ _ c.requires.answer_value in let two = there.two in let inside = there.inside in search rules
 
 pub overflow_add-end : goal.overflow_add-end
-overflow_add-end c = let there = piece-at _ _ _ c.requires.place_value in let two = there.two in let inside = there.inside in search rules
+overflow_add-end c = let there = piece-at _ _ _ c.requires.answer_value in let two = there.two in let inside = there.inside in search rules
 
 pub slice_bounds-data-count : goal.slice_bounds-data-count
-slice_bounds-data-count c = let there = piece-at _ _ _ c.requires.place_value in let two = there.two in let inside = there.inside in search rules
+slice_bounds-data-count c = let there = piece-at _ _ _ c.requires.answer_value in let two = there.two in let inside = there.inside in search rules
 
 pub slice_bounds-data-start : goal.slice_bounds-data-start
-slice_bounds-data-start c = let there = piece-at _ _ _ c.requires.place_value in let two = there.two in let inside = there.inside in search rules
+slice_bounds-data-start c = let there = piece-at _ _ _ c.requires.answer_value in let two = there.two in let inside = there.inside in search rules
 
 pub slice_bounds-data-end : goal.slice_bounds-data-end
-slice_bounds-data-end c = let there = piece-at _ _ _ c.requires.place_value in let two = there.two in let inside = there.inside in search rules
+slice_bounds-data-end c = let there = piece-at _ _ _ c.requires.answer_value in let two = there.two in let inside = there.inside in search rules
 
 pub returns-clause-value : goal.returns-clause-value
 returns-clause-value c = search all

@@ -8,9 +8,9 @@ use Rattle.unit.proofs.reply.write_reply.Goals as goal
 
 ruleset all = (rules, reply-length, reply-out)
 
-pub send_answer-requires-clause-place_value : goal.send_answer-requires-clause-place_value
+pub send_answer-requires-clause-answer_value : goal.send_answer-requires-clause-answer_value
 unfolding piece_sent
-send_answer-requires-clause-place_value c = rw c.in-AnswerSent.is at c.requires.reaction_value
+send_answer-requires-clause-answer_value c = rw c.in-AnswerSent.is at c.requires.reaction_value
 
 pub returns-in-Ignored-clause-value : goal.returns-in-Ignored-clause-value
 unfolding front reply_data reply_to

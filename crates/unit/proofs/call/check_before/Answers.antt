@@ -1,14 +1,10 @@
 -- Each return is the first check that fails.
 use Rattle.octets.proofs.Tests.{cond-t, cond-f, flag-nt, flag-nf}
-use borrow.Author.Tests.{le-leb, lt-leb, eq-eqb, ne_eqb}
+use borrow.Author.Tests.{le-leb, lt-leb}
 use Rattle.unit.specs.Call.{number_before}
-use Rattle.unit.proofs.call.number_before.Goals as goal
+use Rattle.unit.proofs.call.check_before.Goals as goal
 
-ruleset all = (cond-t, cond-f, flag-nt, flag-nf, le-leb, lt-leb, eq-eqb, ne_eqb)
-
-pub returns-then-broken-ne0 : goal.returns-then-broken-ne0
-unfolding number_before
-returns-then-broken-ne0 c = search all
+ruleset all = (cond-t, cond-f, flag-nt, flag-nf, le-leb, lt-leb)
 
 pub returns-then-not-possible_at : goal.returns-then-not-possible_at
 unfolding number_before
