@@ -49,3 +49,11 @@ passed-different a e = go (different a) e
     go : (d : Bool) → ◌≡◌ {A = ℕ} 0 (unless d 2 0) → d ≡ true
     go true q = refl
     go false q = absurd (omega (arith, q))
+
+-- or not: n is the number
+pub failed-different : (a : Addresses) (n : ℕ) → n ≡ unless (different a) 2 0 → (n ≡ 0 → ⊥) → different a ≡ false
+failed-different a n e z = go (different a) e
+  where
+    go : (d : Bool) → n ≡ unless d 2 0 → d ≡ false
+    go true q = absurd (z q)
+    go false q = refl

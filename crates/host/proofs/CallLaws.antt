@@ -6,7 +6,9 @@ use mathlib.Core.Path.{◌≡◌, refl, sym, ap, ◌∙◌}
 use native.Mathlib.Omega.{arith}
 use lib.ListN.{length, drop_of_length-le}
 use borrow.Author.Tests.{lt-ltb, le-ltb, le-leb, lt-leb, eq-eqb}
-use Rattle.octets.specs.Order.{or_else}
+use Rattle.frame.specs.Given.{different}
+use Rattle.octets.proofs.CallLaws.{kept_by}
+use Rattle.octets.specs.Order.{unless, or_else}
 use Rattle.octets.specs.Numbers.{changed_by}
 use Rattle.octets.specs.Buffer.{front, copied}
 use Rattle.octets.specs.declared.Written.{Written}
@@ -15,7 +17,7 @@ use Rattle.octets.proofs.BufferLaws.{copied-fits}
 use Rattle.frame.specs.declared.End.TheVariants as ends
 use Rattle.frame.specs.declared.Addresses.{Addresses}
 use Rattle.frame.specs.Frame.{judged}
-use Rattle.frame.proofs.GivenLaws.{equal-ones, different-ones, taken-given}
+use Rattle.frame.proofs.GivenLaws.{passed-different, failed-different, taken-given}
 use Rattle.catalog.specs.declared.AnswerName.{AnswerName}
 use Rattle.store.specs.Layout.{narrow}
 use Rattle.store.specs.Check.{store_number}
@@ -75,9 +77,16 @@ module _ (a : Addresses) (b : List ℕ) (u : UnitState) (e : u ≡ unpacked_unit
     unfolding unit_handed
     step-handed w k = rw (← e, ← q) k
 
-    pub step_kept : (p b' : List ℕ) → p ≡ packed_unit step.state → b' ≡ changed_by step.number p b → b' ≡ unit_kept (unit_step a b store room f) b
+    step_kept : (p b' : List ℕ) → p ≡ packed_unit step.state → b' ≡ changed_by step.number p b → b' ≡ unit_kept (unit_step a b store room f) b
     unfolding unit_kept
     step_kept p b' i k = rw (← e, ← q, ← i) k
+
+    -- refused, the bytes stay; else they become those of the next state
+    pub step-stays : (step.number ≡ 0 → ⊥) → b ≡ unit_kept (unit_step a b store room f) b
+    step-stays z = step_kept (packed_unit step.state) b refl (kept_by step.number step.number (packed_unit step.state) b refl z)
+
+    pub step-moves : (p b' : List ℕ) → step.number ≡ 0 → p ≡ packed_unit step.state → b' ≡ copied p b → b' ≡ unit_kept (unit_step a b store room f) b
+    step-moves p b' z i k = step_kept p b' i (kept-accepted step.number p b b' (step-state a step u store room b f p e q i) z k)
 
   pub step-reply : (reply reply' : List ℕ) → reply' ≡ unit_out_given a store u f reply → reply' ≡ unit_step_reply a b store f reply
   step-reply reply reply' k = rw (← e) k
@@ -159,9 +168,16 @@ module _ (step called : ToolStep) (is : step ≡ called) where
   unfolding tool_handed
   tool-handed w k = rw (← is) k
 
-  pub tool-kept : (p b b' : List ℕ) → p ≡ packed_tool step.state → b' ≡ changed_by step.number p b → b' ≡ tool_kept called b
+  tool-kept : (p b b' : List ℕ) → p ≡ packed_tool step.state → b' ≡ changed_by step.number p b → b' ≡ tool_kept called b
   unfolding tool_kept
   tool-kept p b b' i k = rw (← is, ← i) k
+
+  -- refused, the bytes stay; else they become those of the next state
+  pub tool-stays : (b : List ℕ) → (step.number ≡ 0 → ⊥) → b ≡ tool_kept called b
+  tool-stays b z = tool-kept (packed_tool step.state) b b refl (kept_by step.number step.number (packed_tool step.state) b refl z)
+
+  pub tool-moves : (p b b' : List ℕ) → (step.number ≡ 0 → length b ≡ length p) → step.number ≡ 0 → p ≡ packed_tool step.state → b' ≡ copied p b → b' ≡ tool_kept called b
+  tool-moves p b b' h z i k = tool-kept p b b' i (kept-accepted step.number p b b' h z k)
 
 -- an event on the state t that the bytes are
 module _ (a : Addresses) (b : List ℕ) (t : ToolState) (e : t ≡ unpacked_tool b) where
@@ -183,32 +199,42 @@ module _ (a : Addresses) (b : List ℕ) (t : ToolState) (e : t ≡ unpacked_tool
 
 -- a begin, from the tests of its addresses and its request
 module _ (a : Addresses) (b : List ℕ) (request : ℕ) (name : AnswerName) where
-  module _ (same : a.unit ≡ a.tool) (out : ℕ) where
-    pub begin-equal : ◌≡◌ {A = Written} (record { number = 2; len = 0 }) (tool_handed (tool_begin a b request name out))
+  -- n is the number of the addresses
+  module _ (n : ℕ) (tested : n ≡ unless (different a) 2 0) (z : n ≡ 0 → ⊥) where
+    same : different a ≡ false
+    same = failed-different a n tested z
+
+    two : n ≡ 2
+    two = rw same at tested
+
+    pub begin-equal : (out : ℕ) → ◌≡◌ {A = Written} (record { number = n; len = 0 }) (tool_handed (tool_begin a b request name out))
     unfolding tool_begin tool_handed
-    begin-equal = rw (equal-ones a same)
+    begin-equal out = rw (same, two)
 
-    pub begin-equal-kept : b ≡ tool_kept (tool_begin a b request name out) b
+    pub begin-equal-kept : (out : ℕ) → b ≡ tool_kept (tool_begin a b request name out) b
     unfolding tool_begin tool_kept
-    begin-equal-kept = rw (equal-ones a same)
+    begin-equal-kept out = rw same
 
-  pub begin-equal-out : (out : List ℕ) → a.unit ≡ a.tool → out ≡ tool_begin_out a b request name out
-  unfolding tool_begin_out
-  begin-equal-out out same = rw (equal-ones a same)
+    pub begin-equal-out : (out : List ℕ) → out ≡ tool_begin_out a b request name out
+    unfolding tool_begin_out
+    begin-equal-out out = rw same
 
-  module _ (other : a.unit ≡ a.tool → ⊥) where
+  module _ (tested : ◌≡◌ {A = ℕ} 0 (unless (different a) 2 0)) where
+    other : different a ≡ true
+    other = passed-different a tested
+
     module _ (h : 5 < request) (out : ℕ) where
       pub begin-none : ◌≡◌ {A = Written} (record { number = 12; len = 0 }) (tool_handed (tool_begin a b request name out))
       unfolding tool_begin tool_handed
-      begin-none = rw (different-ones a other, lt-leb request 5 h)
+      begin-none = rw (other, lt-leb request 5 h)
 
       pub begin-none-kept : b ≡ tool_kept (tool_begin a b request name out) b
       unfolding tool_begin tool_kept
-      begin-none-kept = rw (different-ones a other, lt-leb request 5 h)
+      begin-none-kept = rw (other, lt-leb request 5 h)
 
     pub begin-none-out : (out : List ℕ) → 5 < request → out ≡ tool_begin_out a b request name out
     unfolding tool_begin_out
-    begin-none-out out h = rw (different-ones a other, lt-leb request 5 h)
+    begin-none-out out h = rw (other, lt-leb request 5 h)
 
     module _ (h : request ≤ 5) (t : ToolState) (r : Request) (e : t ≡ unpacked_tool b) (q : r ≡ request_from request) where
       pub begin-called : (step : ToolStep) (out : ℕ) → step ≡ begin_result_given a t r name out → step ≡ tool_begin a b request name out

@@ -10,7 +10,7 @@ use records::Array;
 pub extern "C" fn tacho_array_count(body: &[u8]) -> Counted
     ensures { result ≡ array_count body.now }
 {
-    records::array_count(body)
+    records::array_count(body).into()
 }
 
 // One array's header, and where its records lie.
@@ -18,7 +18,7 @@ pub extern "C" fn tacho_array_count(body: &[u8]) -> Counted
 pub extern "C" fn tacho_array_at(body: &[u8], array: usize) -> Array
     ensures { result ≡ array_at array body.now }
 {
-    records::array_at(body, array)
+    records::array_at(body, array).into()
 }
 
 // Where one record lies.
@@ -26,5 +26,5 @@ pub extern "C" fn tacho_array_at(body: &[u8], array: usize) -> Array
 pub extern "C" fn tacho_record_at(body: &[u8], array: usize, record: usize) -> Place
     ensures { result ≡ record_place array «record» body.now }
 {
-    records::record_place(body, array, record)
+    records::record_place(body, array, record).into()
 }

@@ -2,13 +2,14 @@
 ghost use Rattle.std.specs.Prelude.{◌≡◌};
 ghost use Rattle.store.specs.Layout.{narrow};
 ghost use Rattle.store.specs.Check.{store_fault, store_number};
-ghost use Rattle.store.specs.Read.{lookup_place, stream_place, count_held, held_answer};
+ghost use Rattle.store.specs.Read.{lookup_place, stream_place, count_held, held_answer, held_given};
 ghost use Rattle.append.specs.Append.{append_result, append_out};
 ghost use Rattle.host.specs.Held.{held_of};
 
 use catalog::AnswerName;
+use octets::refusal::Refusal;
 use octets::{Counted, Place, Written};
-use store::Fault;
+use store::{Fault, HeldAnswer};
 
 // One answer of a store: TREP, day and place, or a refusal and zeros.
 #[repr(C)]
@@ -21,12 +22,35 @@ pub struct Held {
     pub len: usize,
 }
 
+impl From<Result<HeldAnswer, Refusal>> for Held {
+    ghost from_gives = { λ given held. held ≡ held_of (held_given given) };
+
+    fn from(given: Result<HeldAnswer, Refusal>) -> Held {
+        match given {
+            Ok(held) => Held {
+                number: 0,
+                trep: held.name.trep,
+                day: held.name.day,
+                start: held.part.start,
+                len: held.part.len,
+            },
+            Err(refusal) => Held {
+                number: refusal.into(),
+                trep: 0,
+                day: 0,
+                start: 0,
+                len: 0,
+            },
+        }
+    }
+}
+
 // What is broken in the store, and where.
 #[unsafe(no_mangle)]
 pub extern "C" fn tacho_store_fault(store: &[u8]) -> Fault
     ensures { result ≡ store_fault narrow store.now }
 {
-    store::check::fault(store)
+    store::check::fault(store).into()
 }
 
 // 0 for an unbroken store, else the number of its fault.
@@ -34,7 +58,7 @@ pub extern "C" fn tacho_store_fault(store: &[u8]) -> Fault
 pub extern "C" fn tacho_store_check(store: &[u8]) -> u8
     ensures { result ≡ store_number narrow store.now }
 {
-    store::check::check(store)
+    octets::refusal::number_of(store::check::check(store))
 }
 
 // Where an answer lies.
@@ -42,7 +66,7 @@ pub extern "C" fn tacho_store_check(store: &[u8]) -> u8
 pub extern "C" fn tacho_store_lookup(store: &[u8], trep: u8, day: u32) -> Place
     ensures { result ≡ lookup_place narrow (record { trep = trep; day = day }) store.now }
 {
-    store::read::locate(store, AnswerName { trep, day })
+    store::read::locate(store, AnswerName { trep, day }).into()
 }
 
 // Where the stream lies.
@@ -50,7 +74,7 @@ pub extern "C" fn tacho_store_lookup(store: &[u8], trep: u8, day: u32) -> Place
 pub extern "C" fn tacho_store_stream(store: &[u8]) -> Place
     ensures { result ≡ stream_place narrow store.now }
 {
-    store::read::locate_stream(store)
+    store::read::locate_stream(store).into()
 }
 
 // How many answers the store holds.
@@ -58,7 +82,7 @@ pub extern "C" fn tacho_store_stream(store: &[u8]) -> Place
 pub extern "C" fn tacho_store_count(store: &[u8]) -> Counted
     ensures { result ≡ count_held narrow store.now }
 {
-    store::read::count(store)
+    store::read::count(store).into()
 }
 
 // Answer `k`, from 0: its name, and where it lies.
@@ -66,14 +90,7 @@ pub extern "C" fn tacho_store_count(store: &[u8]) -> Counted
 pub extern "C" fn tacho_store_answer(store: &[u8], k: usize) -> Held
     ensures { result ≡ held_of (held_answer narrow k store.now) }
 {
-    let held = store::read::held(store, k);
-    Held {
-        number: held.number,
-        trep: held.name.trep,
-        day: held.name.day,
-        start: held.start,
-        len: held.len,
-    }
+    store::read::held(store, k).into()
 }
 
 // Puts an answer last; `len` is the store's new length.
@@ -82,5 +99,5 @@ pub extern "C" fn tacho_store_append(store: &mut [u8], answer: &[u8], day: u32) 
     ensures value { result ≡ append_result narrow answer.now day store.old }
     ensures store_after { store.new ≡ append_out narrow answer.now day store.old }
 {
-    append::append(store, answer, day)
+    append::append(store, answer, day).into()
 }

@@ -38,14 +38,14 @@ pub extern "C" fn tacho_frame_length(received: &[u8]) -> usize
 pub extern "C" fn tacho_frame_check_at(unit: u8, tool: u8, frame: &[u8], at_tool: bool) -> u8
     ensures { result ≡ judged_given (given unit tool) (end_of at_tool) frame.now }
 {
-    frame::call::check(Addresses { unit, tool }, frame, end_of(at_tool))
+    octets::refusal::number_of(frame::call::check(Addresses { unit, tool }, frame, end_of(at_tool)))
 }
 
 #[unsafe(no_mangle)]
 pub extern "C" fn tacho_frame_check(frame: &[u8], at_tool: bool) -> u8
     ensures { result ≡ judged_given lab (end_of at_tool) frame.now }
 {
-    frame::call::check(LAB, frame, end_of(at_tool))
+    octets::refusal::number_of(frame::call::check(LAB, frame, end_of(at_tool)))
 }
 
 // Where the data of a good frame lies.
@@ -53,14 +53,14 @@ pub extern "C" fn tacho_frame_check(frame: &[u8], at_tool: bool) -> u8
 pub extern "C" fn tacho_frame_data_at(unit: u8, tool: u8, frame: &[u8], at_tool: bool) -> Place
     ensures { result ≡ data_place_given (given unit tool) (end_of at_tool) frame.now }
 {
-    frame::call::locate(Addresses { unit, tool }, frame, end_of(at_tool))
+    frame::call::locate(Addresses { unit, tool }, frame, end_of(at_tool)).into()
 }
 
 #[unsafe(no_mangle)]
 pub extern "C" fn tacho_frame_data(frame: &[u8], at_tool: bool) -> Place
     ensures { result ≡ data_place_given lab (end_of at_tool) frame.now }
 {
-    frame::call::locate(LAB, frame, end_of(at_tool))
+    frame::call::locate(LAB, frame, end_of(at_tool)).into()
 }
 
 // Writes the frame to that end with this data.
@@ -76,7 +76,7 @@ pub extern "C" fn tacho_frame_write_at(
     ensures out_after { out.new
         ≡ write_out_given (given unit tool) (end_of to_tool) «data».now out.old }
 {
-    frame::call::write(Addresses { unit, tool }, data, end_of(to_tool), out)
+    frame::call::write(Addresses { unit, tool }, data, end_of(to_tool), out).into()
 }
 
 #[unsafe(no_mangle)]
@@ -85,5 +85,5 @@ pub extern "C" fn tacho_frame_write(data: &[u8], to_tool: bool, out: &mut [u8]) 
     ensures out_after { out.new
         ≡ write_out_given lab (end_of to_tool) «data».now out.old }
 {
-    frame::call::write(LAB, data, end_of(to_tool), out)
+    frame::call::write(LAB, data, end_of(to_tool), out).into()
 }

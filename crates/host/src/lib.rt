@@ -6,7 +6,6 @@
 pub mod arrays;
 pub mod bench_store;
 pub mod frames;
-mod hand;
 pub mod readers;
 pub mod splitting;
 pub mod tool_calls;

@@ -13,7 +13,7 @@ use split::SubMessage;
 pub extern "C" fn tacho_sub_messages(data_len: usize) -> Counted
     ensures { result ≡ sub_messages data_len }
 {
-    split::pieces::sub_messages(data_len)
+    split::pieces::sub_messages(data_len).into()
 }
 
 // Writes one sub message as a frame to the tool, at the addresses given.
@@ -38,6 +38,7 @@ pub extern "C" fn tacho_sub_message_at(
         SubMessage(number),
         out,
     )
+    .into()
 }
 
 // The same at the lab's.
@@ -46,5 +47,5 @@ pub extern "C" fn tacho_sub_message(data: &[u8], trep: u8, number: u16, out: &mu
     ensures value { result ≡ sub_result_given lab trep number «data».now (length out.old) }
     ensures out_after { out.new ≡ sub_out_given lab trep number «data».now out.old }
 {
-    split::call::write_sub_message(LAB, data, trep, SubMessage(number), out)
+    split::call::write_sub_message(LAB, data, trep, SubMessage(number), out).into()
 }

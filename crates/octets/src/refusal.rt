@@ -1,7 +1,7 @@
 // Why a call is refused, and what of that a host is given: the house numbers of document 01, and from 13 on those of
 // document 02.
 ghost use Rattle.std.specs.Prelude.{◌≡◌};
-ghost use Rattle.octets.specs.Numbers.{number, written, placed, counted};
+ghost use Rattle.octets.specs.Numbers.{number, judgement, written, placed, counted};
 
 use crate::{Counted, Part, Place, Written};
 use std::error::Error;
@@ -34,6 +34,16 @@ impl From<Refusal> for u8 {
 
     fn from(refusal: Refusal) -> u8 {
         refusal as u8
+    }
+}
+
+// The number that a host is given of a call that only judges.
+pub fn number_of(judged: Result<(), Refusal>) -> u8
+    ensures { result ≡ judgement judged }
+{
+    match judged {
+        Ok(()) => 0,
+        Err(refusal) => refusal.into(),
     }
 }
 

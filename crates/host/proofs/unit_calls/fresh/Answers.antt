@@ -1,7 +1,7 @@
 -- The refusals in order; then the state in front.
 use Rattle.host.proofs.CallLaws.{fresh-kind, fresh-kind-kept, fresh-short, fresh-short-kept, fresh-good, fresh-good-packed}
 use Rattle.std.proofs.Common.{rules}
-use Rattle.host.proofs.unit_calls.tacho_unit_fresh.Goals as goal
+use Rattle.host.proofs.unit_calls.fresh.Goals as goal
 
 ruleset all = (rules, fresh-kind, fresh-kind-kept, fresh-short, fresh-short-kept, fresh-good, fresh-good-packed)
 

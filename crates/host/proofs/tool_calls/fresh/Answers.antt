@@ -1,7 +1,7 @@
 -- Refused, or the state in front.
 use Rattle.host.proofs.CallLaws.{tool-short, tool-short-kept, tool-good, tool-good-packed}
 use Rattle.std.proofs.Common.{rules}
-use Rattle.host.proofs.tool_calls.tacho_tool_fresh.Goals as goal
+use Rattle.host.proofs.tool_calls.fresh.Goals as goal
 
 ruleset all = (rules, tool-short, tool-short-kept, tool-good, tool-good-packed)
 
