@@ -23,6 +23,7 @@ use Rattle.services.specs.declared.Reaction.TheVariants.{AnswerSent, Negative}
 use Rattle.services.specs.State.{is_closed, is_granted}
 use Rattle.services.specs.Services.{answer_from}
 use Rattle.services.specs.After.{state_after}
+use Rattle.octets.specs.Numbers.{part_of_place}
 use Rattle.octets.specs.Order.{unless}
 use Rattle.unit.specs.Call.{reaction_to, reply_data, reply_to, unit_state, unit_reply}
 use Rattle.unit.specs.Days.{rounded_state}
@@ -40,7 +41,7 @@ use Rattle.download.proofs.StoreFacts.{held_place}
 use Rattle.download.proofs.TradeCases.{reply, next, transfer-reaction}
 
 module _ (u : UnitState) (room : ℕ) (c : Called day_store u room) (k : u.kind ≡ 0) where
-  granted-reaction : u.phase ≡ Granted → reaction_to lab day_store u day_request ≡ AnswerSent day_asked (sub 1) (record { number = 0; start = 12; len = 3 })
+  granted-reaction : u.phase ≡ Granted → reaction_to lab day_store u day_request ≡ AnswerSent day_asked (sub 1) (record { start = 12; len = 3 })
   unfolding calls
   granted-reaction p = rw (k, p)
 
@@ -96,7 +97,7 @@ module _ (store : List ℕ) (u : UnitState) (room : ℕ) (c : Called store u roo
     answer-alike =
         rw ((store-days narrow).alike name other store e)
         (both (is_granted u.phase) _ _ _ _
-        (both (eqb (lookup_place narrow other store).number 0) _ _ _ _ (sent-alike name other (sub 1) (lookup_place narrow other store) e) refl)
+        (both (eqb (lookup_place narrow other store).number 0) _ _ _ _ (sent-alike name other (sub 1) (part_of_place (lookup_place narrow other store)) e) refl)
         refl)
 
     alike : rounded_reaction (reaction_to lab store u (request name)) ≡ rounded_reaction (reaction_to lab store u (request other))

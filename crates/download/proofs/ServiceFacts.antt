@@ -12,6 +12,7 @@ use Rattle.octets.proofs.Tests.{and_left, and_right}
 use Rattle.octets.specs.Order.{unless}
 use Rattle.fields.specs.BigEndian.{bytes_of, number_at}
 use Rattle.octets.specs.declared.Place.{Place}
+use Rattle.octets.specs.Numbers.{part_of_place}
 use Rattle.frame.specs.declared.Addresses.{Addresses}
 use Rattle.frame.specs.declared.End.TheVariants as ends
 use Rattle.frame.specs.Frame.{closed, frame_of, is_start, judged}
@@ -122,13 +123,13 @@ transfer-asked kind phase place name k d f = go (is_activities name.trep) refl
 -- "83 76 and a code", the one that acknowledges number n: its code is n + 1
 module _ (place : Place) (name : AnswerName) (n : ℕ) (h : suc n < 65536) where
   -- n + 1 was sent last: it is sent again
-  pub sent-again : on_acknowledge (Sending name (sub (suc n))) place (acknowledgement (acknowledge_of (sub n))) ≡ AnswerSent name (sub (suc n)) place
+  pub sent-again : on_acknowledge (Sending name (sub (suc n))) place (acknowledgement (acknowledge_of (sub n))) ≡ AnswerSent name (sub (suc n)) (part_of_place place)
   unfolding on_acknowledge on_sending on_code acknowledgement
   sent-again = rw (code-back n h, eq-eqb (suc n) (suc n) refl)
 
   -- n was sent last: the next one is sent, or 12 if there is none
   pub sent-next : suc n ≤ count_of (place.len - 2)
-      → on_acknowledge (Sending name (sub n)) place (acknowledgement (acknowledge_of (sub n))) ≡ AnswerSent name (sub (suc n)) place
+      → on_acknowledge (Sending name (sub n)) place (acknowledgement (acknowledge_of (sub n))) ≡ AnswerSent name (sub (suc n)) (part_of_place place)
   unfolding on_acknowledge on_sending on_code acknowledgement
   sent-next c =
       let next : (n + 1) % 65536 ≡ suc n = omega arith in

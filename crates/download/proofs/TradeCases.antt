@@ -65,7 +65,7 @@ module _ (store : List ℕ) (u : UnitState) (room : ℕ) (c : Called store u roo
 
 w3-reaction : (u : UnitState) → u.kind ≡ 2 → u.phase ≡ Granted
     → reaction_to lab store12 u (0x80 ∷ 0xEE ∷ 0xF0 ∷ 0x02 ∷ 0x36 ∷ 0x00 ∷ 0x96 ∷ []) ≡ AnswerSent (record { trep = 0x00; day = 0 }) (sub 1)
-    (record { number = 0; start = 12; len = 4 })
+    (record { start = 12; len = 4 })
 unfolding calls
 w3-reaction u k p = rw (k, p)
 

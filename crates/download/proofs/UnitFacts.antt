@@ -26,6 +26,7 @@ use Rattle.services.specs.declared.UnitState.{UnitState}
 use Rattle.services.specs.declared.Reaction.{Reaction}
 use Rattle.services.specs.declared.Reaction.TheVariants.{AnswerSent}
 use Rattle.services.specs.State.{is_granted, sendable, phase_possible, possible_at}
+use Rattle.octets.specs.Numbers.{part_of_place}
 use Rattle.unit.specs.State.{place_sent, possible}
 use Rattle.services.specs.Services.{answer_from, on_acknowledge}
 use Rattle.services.specs.Services.{on_data}
@@ -67,8 +68,8 @@ module _ (a : Addresses) (c : UnitGiven) (u : UnitState) where
   sent : (name : AnswerName) (k : ℕ) (answer : List ℕ) → Held c.store name answer
       → ◌≡◌ {A = Result (List ℕ) UnitState}
       (record {
-        next = state_after u (AnswerSent name (sub k) (lookup_place narrow name c.store));
-        out = strings (reply_to a (reply_data c.store (AnswerSent name (sub k) (lookup_place narrow name c.store))));
+        next = state_after u (AnswerSent name (sub k) (part_of_place (lookup_place narrow name c.store)));
+        out = strings (reply_to a (reply_data c.store (AnswerSent name (sub k) (part_of_place (lookup_place narrow name c.store)))));
       })
       (sends (with_phase u (cond (is_split (length (drop 2 answer))) (Sending name (sub k)) Granted)) (sub_frame a name.trep k (drop 2 answer)))
   unfolding state_after reply_data reply_to sub_field sub_frame
@@ -170,7 +171,7 @@ module _ (g : Premises) where
       -- a request at which the answer is sent
       asked : (k : ℕ) → leb 260 c.reply ≡ true
           → on_data (place_sent c.store (unit_after n).phase) (place_asked c.store (transfer_data g.name (suc k))) (unit_after n)
-          (transfer_data g.name (suc k)) ≡ AnswerSent g.name (sub (suc k)) (lookup_place narrow g.name c.store)
+          (transfer_data g.name (suc k)) ≡ AnswerSent g.name (sub (suc k)) (part_of_place (lookup_place narrow g.name c.store))
           → unit_call a c (unit_after n) (frame_sent a requests.Transfer g.name (suc k)) ≡ sends (unit_after (suc k)) ((transfer a g).frame (suc k))
       unfolding frame_sent
       asked k l e =
@@ -205,7 +206,7 @@ module _ (g : Premises) where
         is-split = lt-ltb 252 (length (answer_data g)) (splits g (omega arith))
 
         again : on_acknowledge (unit_after (suc n)).phase (place_sent c.store (unit_after (suc n)).phase)
-            (acknowledgement (acknowledge_of (sub (suc k)))) ≡ AnswerSent g.name (sub (suc (suc k))) (lookup_place narrow g.name c.store)
+            (acknowledgement (acknowledge_of (sub (suc k)))) ≡ AnswerSent g.name (sub (suc (suc k))) (part_of_place (lookup_place narrow g.name c.store))
         again =
             rw is-split
             (by_test (eqb (suc n) (suc (suc k)))
