@@ -25,17 +25,7 @@ pub fn part(bytes: &[u8], place: Place) -> &[u8]
 pub fn same(a: &[u8], b: &[u8]) -> bool
     ensures { result ≡ same_bytes a.now b.now }
 {
-    if a.len() != b.len() {
-        return false;
-    }
-    let mut i = 0;
-    while i < a.len() {
-        if a[i] != b[i] {
-            return false;
-        }
-        i += 1;
-    }
-    true
+    a == b
 }
 
 // Copies `bytes` to the front of `out`, all of them or, where `out` is shorter, none.
@@ -46,15 +36,10 @@ pub fn copy_in(out: &mut [u8], bytes: &[u8])
     if out.len() < n {
         return;
     }
-    let mut i = 0;
-    while i < n {
-        out[i] = bytes[i];
-        i += 1;
-    }
+    out[..n].copy_from_slice(bytes);
 }
 
-// Moves the bytes from `start` up to `end` by `by` places towards the back, the last one first; nothing where they do
-// not fit.
+// Moves the bytes from `start` up to `end` by `by` places towards the back; nothing where they do not fit.
 pub fn shift_up(buffer: &mut [u8], start: usize, end: usize, by: usize)
     ensures { buffer.new ≡ shifted start end by buffer.old }
 {
@@ -68,9 +53,5 @@ pub fn shift_up(buffer: &mut [u8], start: usize, end: usize, by: usize)
     if n - end < by {
         return;
     }
-    let mut i = end;
-    while start < i {
-        i -= 1;
-        buffer[i + by] = buffer[i];
-    }
+    buffer.copy_within(start..end, start + by);
 }
