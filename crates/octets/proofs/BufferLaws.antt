@@ -1,8 +1,8 @@
--- What lent buffers hold after writes.
-use Rattle.std.proofs.Common.{◌≡◌, ℕ, ◌+◌, ◌-◌, ◌<◌, ◌≤◌, true, eqb, List, [], ◌∷◌, ◌++◌, length, get_or, take, drop, sym, refl, ap, ◌∙◌, append_assoc, append-nil, zero-add, arith, length-append, length-drop, drop_of_length-le, length-take, take_all, drop-drop, take_at, eq-eqb, eqb-true, le-leb}
+-- What lent buffers hold after writes, and the loop that copies, a turn at a time.
+use Rattle.std.proofs.Common.{◌≡◌, ℕ, suc, ◌+◌, ◌-◌, ◌<◌, ◌≤◌, true, eqb, List, [], ◌∷◌, ◌++◌, length, get_or, take, drop, set, sym, refl, ap, ◌∙◌, append_assoc, append-nil, zero-add, add-one, arith, length-append, length-drop, drop_of_length-le, length-take, take_all, drop-drop, take_at, eq-eqb, eqb-true, le-leb}
 use lib.ListN.{get_or-eq_default}
-use lib.Seq.{take-append_seam, drop-append-add, take-nil, paste}
-use lib.Seq.{sets, sets-eq, slice}
+use lib.Seq.{take-append_seam, drop-append-add, take-length, take-nil, paste}
+use lib.Seq.{paste-suc, sets, sets-eq, slice}
 use borrow.Author.Tests.{lt-leb}
 use Rattle.std.proofs.lemmas.Slice.{between_is}
 use Rattle.octets.specs.Buffer.{part_at, same_bytes, front, put, copied, moved, shifted}
@@ -88,10 +88,16 @@ stores-front v o h = let h' : 0 + length v ≤ length o = omega arith in rw zero
 
 -- Copying to the front
 
--- the front of o now holds v
-pub copied_is : (v o o' : List ℕ) → length v ≤ length o → o' ≡ v → o' ++ drop (length v) o ≡ copied v o
+pub copy_more : (i : ℕ) (v o o' : List ℕ) → length v ≤ length o → i < length v → o' ≡ paste o 0 v i → set o' i (get_or v i 0) ≡ paste o 0 v (i + 1)
+copy_more i v o o' b h e =
+    let z : set (paste o 0 v i) (0 + i) (get_or v i 0) ≡ paste o 0 v (suc i) = paste-suc o 0 v i 0 (omega arith) h in
+    rw (e, add-one) (ap (λ (n : ℕ). set (paste o 0 v i) n (get_or v i 0)) (sym (zero-add i)) ∙ z)
+
+pub copied_all : (i : ℕ) (v o o' : List ℕ) → length v ≤ length o → i ≤ length v → length v ≤ i → o' ≡ paste o 0 v i → o' ≡ copied v o
 unfolding copied front
-copied_is v o o' b e = simp (le-leb _ _ b) (rw e)
+copied_all i v o o' b p q e =
+    let t : i ≡ length v = omega arith in
+    simp (le-leb _ _ b) (rw (e, t, take-length, zero-add))
 
 pub copied_none : (v o : List ℕ) → length o < length v → o ≡ copied v o
 unfolding copied

@@ -36,7 +36,9 @@ pub fn copy_in(out: &mut [u8], bytes: &[u8])
     if out.len() < n {
         return;
     }
-    out[..n].copy_from_slice(bytes);
+    for (i, byte) in bytes.iter().enumerate() {
+        out[i] = *byte;
+    }
 }
 
 // Moves the bytes from `start` up to `end` by `by` places towards the back; nothing where they do not fit.
