@@ -1,10 +1,10 @@
--- What lent buffers hold after writes, and the loops that write, a turn at a time.
-use Rattle.std.proofs.Common.{◌≡◌, ℕ, suc, ◌+◌, ◌-◌, ◌<◌, ◌≤◌, Bool, true, false, ◌&&◌, eqb, List, [], ◌∷◌, ◌++◌, length, get_or, take, drop, set, sym, refl, ap, ◌∙◌, append_assoc, append-nil, suc-add, zero-add, add-one, arith, length-append, length-drop, take-append-drop, drop_of_length-le, length-take, length-take-le, take_all, drop-cons, get_or-take, take-suc, drop-drop, take_at, eq-eqb, ne_eqb, eqb-true, le-leb}
-use lib.ListN.{get_or-append}
+-- What lent buffers hold after writes, and the loop that copies, a turn at a time.
+use Rattle.std.proofs.Common.{◌≡◌, ℕ, suc, ◌+◌, ◌-◌, ◌<◌, ◌≤◌, true, eqb, List, [], ◌∷◌, ◌++◌, length, get_or, take, drop, set, sym, refl, ap, ◌∙◌, append_assoc, append-nil, zero-add, add-one, arith, length-append, length-drop, drop_of_length-le, length-take, take_all, drop-drop, take_at, eq-eqb, eqb-true, le-leb}
 use lib.ListN.{get_or-eq_default}
-use lib.Seq.{take-append_seam, drop-append-add, take-length, take-nil, paste, paste-zero}
-use lib.Seq.{paste-suc, set_at, sets, sets-eq, slice, slice_empty, slice-cons, append_snoc}
+use lib.Seq.{take-append_seam, drop-append-add, take-length, take-nil, paste}
+use lib.Seq.{paste-suc, sets, sets-eq, slice}
 use borrow.Author.Tests.{lt-leb}
+use Rattle.std.proofs.lemmas.Slice.{between_is}
 use Rattle.octets.specs.Buffer.{part_at, same_bytes, front, put, copied, moved, shifted}
 use Rattle.octets.proofs.Tests.{and_left, and_right}
 
@@ -45,30 +45,6 @@ same-is (x ∷ a) (y ∷ b) h =
     let e : x ≡ y = eqb-true x y (and_left (eqb x y) _ h) in
     let t : a ≡ b = same-is a b (and_right (eqb x y) _ h) in
     cc
-
-pub same_length : (a b : List ℕ) → (length a ≡ length b → ⊥) → false ≡ same_bytes a b
-same_length [] [] h = absurd (h refl)
-same_length [] (y ∷ b) h = refl
-same_length (x ∷ a) [] h = refl
-same_length (x ∷ a) (y ∷ b) h = go (eqb x y) (same_length a b (λ q. h (ap suc q)))
-  where
-    go : (t : Bool) → false ≡ same_bytes a b → false ≡ (t && same_bytes a b)
-    go true e = e
-    go false e = refl
-
--- a turn of the comparison: what is left decides
-module _ (a b : List ℕ) (i : ℕ) (long : length a ≡ length b) (inside : i < length a) where
-  turn : same_bytes (drop i a) (drop i b) ≡ (eqb (get_or a i 0) (get_or b i 0) && same_bytes (drop (i + 1) a) (drop (i + 1) b))
-  turn = rw (add-one, drop-cons a i 0 inside, drop-cons b i 0 (omega arith))
-
-  pub same_more : same_bytes a b ≡ same_bytes (drop i a) (drop i b) → get_or a i 0 ≡ get_or b i 0 → same_bytes a b ≡ same_bytes (drop (i + 1) a) (drop (i + 1) b)
-  same_more e q = e ∙ turn ∙ rw (eq-eqb (get_or a i 0) (get_or b i 0) q)
-
-  pub same_not : same_bytes a b ≡ same_bytes (drop i a) (drop i b) → (get_or a i 0 ≡ get_or b i 0 → ⊥) → false ≡ same_bytes a b
-  same_not e q = sym (e ∙ turn ∙ rw (ne_eqb (get_or a i 0) (get_or b i 0) q))
-
-pub same-all : (a b : List ℕ) (i : ℕ) → length a ≡ length b → length a ≤ i → same_bytes a b ≡ same_bytes (drop i a) (drop i b) → true ≡ same_bytes a b
-same-all a b i q p e = sym (e ∙ rw (drop_of_length-le a p, drop_of_length-le b {i = i} (omega arith)))
 
 -- Fronts and puts
 
@@ -112,9 +88,6 @@ stores-front v o h = let h' : 0 + length v ≤ length o = omega arith in rw zero
 
 -- Copying to the front
 
-pub copy-none : (v o : List ℕ) → o ≡ paste o 0 v 0
-copy-none v o = paste-zero o 0 v
-
 pub copy_more : (i : ℕ) (v o o' : List ℕ) → length v ≤ length o → i < length v → o' ≡ paste o 0 v i → set o' i (get_or v i 0) ≡ paste o 0 v (i + 1)
 copy_more i v o o' b h e =
     let z : set (paste o 0 v i) (0 + i) (get_or v i 0) ≡ paste o 0 v (suc i) = paste-suc o 0 v i 0 (omega arith) h in
@@ -157,39 +130,15 @@ lent-copy at v o o' h e =
 
 -- Shifting up
 
-pub shift_none : (start end by : ℕ) (b : List ℕ) → b ≡ moved end end by b
-unfolding moved
-shift_none start end by b = rw (slice_empty, take-append-drop)
-
-moved_more : (b : List ℕ) (i end by : ℕ) → i < end → end + by ≤ length b →
-    set (moved (suc i) end by b) (i + by) (get_or (moved (suc i) end by b) i 0) ≡ moved i end by b
-unfolding moved
-moved_more b i end by h k =
-    let r : List ℕ = slice (suc i) end b ++ drop (end + by) b in
-    let e : take (suc i + by) b ≡ take (i + by) b ++ (get_or b (i + by) 0 ∷ []) = rw suc-add (take-suc b (i + by) 0 (omega arith)) in
-    let v : get_or (take (suc i + by) b ++ r) i 0 ≡ get_or b i 0 =
-    get_or-append (take (suc i + by) b) r 0 i (simp length-take (omega arith)) ∙ get_or-take (suc i + by) b i 0 (omega arith) in
-    ap (λ (n : ℕ). set (take (suc i + by) b ++ r) (i + by) n) v
-    ∙ ap (λ (l : List ℕ). set (l ++ r) (i + by) (get_or b i 0)) e
-    ∙ ap (λ (l : List ℕ). set l (i + by) (get_or b i 0)) (append_snoc (take (i + by) b) (get_or b (i + by) 0) r)
-    ∙ set_at (take (i + by) b) (get_or b (i + by) 0) r (get_or b i 0) (i + by) (length-take-le (i + by) b (omega arith))
-    ∙ ap (λ (l : List ℕ). take (i + by) b ++ (l ++ drop (end + by) b)) (sym (slice-cons i end b 0 h (omega arith)))
-
--- a turn of the loop, from the back: i is the index before it is lowered
-pub shift-more : (b b' : List ℕ) (start i end by : ℕ) → start < i → i ≤ end → end ≤ length b → by ≤ length b - end → b' ≡ moved i end by b →
-    set b' (i - 1 + by) (get_or b' (i - 1) 0) ≡ moved (i - 1) end by b
-shift-more b b' start i end by l h m k e =
-    let j : ℕ = i - 1 in
-    let t : i ≡ suc j = omega arith in
-    let d : b' ≡ moved (suc j) end by b = rw t at e in
-    ap (λ (s : List ℕ). set s (j + by) (get_or s j 0)) d ∙ moved_more b j end by (omega arith) (omega arith)
-
-pub shift-done : (b b' : List ℕ) (start i end by : ℕ) → start ≤ end → end ≤ length b → by ≤ length b - end → start ≤ i → i ≤ start → b' ≡ moved i end by b
-    → b' ≡ shifted start end by b
-unfolding shifted
-shift-done b b' start i end by s n k p q e =
-    let t : i ≡ start = omega arith in
-    simp (le-leb start end s, le-leb (end + by) (length b) (omega arith)) (rw t at e)
+-- what `copy_within` leaves
+pub shift_done : (b b' : List ℕ) (start end by : ℕ) → start ≤ end → end ≤ length b → by ≤ length b - end
+    → b' ≡ paste b (start + by) (drop start b) (end - start) → b' ≡ shifted start end by b
+unfolding shifted moved
+shift_done b b' start end by s n k e =
+    let t : start + by + (end - start) ≡ end + by = omega arith in
+    let m : take (end - start) (drop start b) ≡ slice start end b = between_is b start end in
+    simp (le-leb start end s, le-leb (end + by) (length b) (omega arith))
+    (rw (t, m) at e ∙ append_assoc (take (start + by) b) (slice start end b) (drop (end + by) b))
 
 pub shift-refused-order : (b : List ℕ) (start end by : ℕ) → end < start → b ≡ shifted start end by b
 unfolding shifted

@@ -23,10 +23,8 @@ fn with_rest(rest: &[u8], start: u8) -> u8
     ensures { result ≡ (start + total rest.now) % 256 }
 {
     let mut sum = start;
-    let mut i = 0;
-    while i < rest.len() {
-        sum = std::num::wrapping_add_u8(sum, rest[i]);
-        i += 1;
+    for byte in rest {
+        sum = std::num::wrapping_add_u8(sum, *byte);
     }
     sum
 }
@@ -39,10 +37,8 @@ pub fn checksum(bytes: &[u8]) -> u8
 {
     let turns = bytes.len() / 8;
     let mut sum: u8 = 0;
-    let mut turn = 0;
-    while turn < turns {
+    for turn in 0..turns {
         sum = with_eight(bytes, turn * 8, sum);
-        turn += 1;
     }
     let behind = turns * 8;
     with_rest(&bytes[behind..], sum)

@@ -83,15 +83,13 @@ fn exchanges(
     out: &mut [u8],
 ) -> io::Result<Session> {
     let mut now = s;
-    let mut i: usize = 0;
-    while i < 20 {
+    for _ in 0..20 {
         let tool = now.tool;
         let outcome = tool.outcome;
         if is_done(outcome) {
             return Ok(now);
         }
         now = exchange(rt, now, store, room, out)?;
-        i += 1;
     }
     Ok(now)
 }

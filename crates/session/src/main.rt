@@ -82,10 +82,8 @@ fn steps(rt: &impl Print, store: &[u8], room: &mut [u8]) -> io::Result<()> {
         len: 0,
         calls: 0,
     };
-    let mut k: usize = 0;
-    while k < 8 {
+    for k in 0..8 {
         session = step(rt, session, k, store, room)?;
-        k += 1;
     }
     Ok(())
 }

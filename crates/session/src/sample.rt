@@ -2,13 +2,7 @@
 use octets::Place;
 
 fn counted() -> [u8; 1024] {
-    let mut data = [0u8; 1024];
-    let mut i: usize = 0;
-    while i < 1024 {
-        data[i] = (i % 256) as u8;
-        i += 1;
-    }
-    data
+    std::array::from_fn(|i| (i % 256) as u8)
 }
 
 // An answer with `len` data bytes.

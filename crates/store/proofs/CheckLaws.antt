@@ -182,12 +182,9 @@ module _ (f : Form) (s : List ℕ) (i start b : ℕ) (is-start : start ≡ answe
   unfolding answer_right
   answer-is name r h e q = rw (← is-start, ← first, eq-eqb b 0x76 h, ← e) q
 
--- a test of the answer, as the loop makes it
-pub right_by : (r : Bool) (t : Bool) → r ≡ t → r ≡ true → not t ≡ false
-right_by r t e h = rw (← e, h)
-
-pub wrong-by : (r : Bool) (t : Bool) → r ≡ t → r ≡ false → not t ≡ true
-wrong-by r t e h = rw (← e, h)
+-- a test of the entry or of the answer, as the loop makes it: `if !f(..)`
+pub tested : (r t b : Bool) → r ≡ t → not r ≡ b → not t ≡ b
+tested r t b e h = rw e at h
 
 -- Names: those before i rank below `above`, so that a name from there on is none of them
 

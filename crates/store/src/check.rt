@@ -71,17 +71,15 @@ fn check_entries(store: &[u8]) -> Result<(), Broken>
 {
     let n = crate::layout::answers(store);
     let t = crate::layout::stream_length(store);
-    let mut i = 0;
     let mut end = 0;
-    while i < n && place_right(store, i, end) {
+    for i in 0..n {
+        if !place_right(store, i, end) {
+            return Err(Broken {
+                refusal: Refusal::StoreEntry,
+                position: i,
+            });
+        }
         end += crate::layout::entry_length(store, i);
-        i += 1;
-    }
-    if i < n {
-        return Err(Broken {
-            refusal: Refusal::StoreEntry,
-            position: i,
-        });
     }
     if end != t {
         return Err(Broken {
@@ -109,11 +107,12 @@ fn first_wrong(store: &[u8]) -> usize
     ensures { result ≡ wrong_at narrow store.now }
 {
     let n = crate::layout::answers(store);
-    let mut i = 0;
-    while i < n && answer_right(store, i) {
-        i += 1;
+    for i in 0..n {
+        if !answer_right(store, i) {
+            return i;
+        }
     }
-    i
+    n
 }
 
 // The order of names: by TREP, then by day.
@@ -131,8 +130,7 @@ fn first_repeat(store: &[u8]) -> usize
 {
     let n = crate::layout::answers(store);
     let mut above: u64 = 0;
-    let mut i = 0;
-    while i < n {
+    for i in 0..n {
         let name = crate::layout::name_at(store, i);
         let here = rank(name);
         if above <= here {
@@ -143,9 +141,8 @@ fn first_repeat(store: &[u8]) -> usize
                 return i;
             }
         }
-        i += 1;
     }
-    i
+    n
 }
 
 // What is broken in the store at the front of the buffer, and where.

@@ -107,12 +107,10 @@ pub(crate) fn first_named(store: &[u8], count: usize, name: AnswerName) -> usize
     requires { entry_start narrow count ≤ length store.now }
     ensures { result ≡ first_of (λ i. same_answer (name_at narrow i store.now) name) count }
 {
-    let mut i = 0;
-    while i < count {
+    for i in 0..count {
         if has_name(store, i, name) {
             return i;
         }
-        i += 1;
     }
-    i
+    count
 }

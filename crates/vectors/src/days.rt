@@ -26,10 +26,8 @@ fn second(rt: &impl Print, n: u32) -> io::Result<()> {
 }
 
 fn seconds(rt: &impl Print) -> io::Result<()> {
-    let mut i: usize = 0;
-    while i < 10 {
-        second(rt, SECONDS[i])?;
-        i += 1;
+    for n in SECONDS {
+        second(rt, n)?;
     }
     Ok(())
 }

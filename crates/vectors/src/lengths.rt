@@ -32,9 +32,7 @@ fn step(rt: &impl Print, data: &[u8], k: u16, room: &mut [u8], held: usize) -> i
 
 fn joined(rt: &impl Print, data: &[u8], room: &mut [u8], count: usize) -> io::Result<usize> {
     let mut held = 0;
-    let mut k = 0;
-    while k < count {
-        k += 1;
+    for k in 1..=count {
         held = step(rt, data, (k % 65536) as u16, room, held)?;
     }
     Ok(held)
@@ -56,26 +54,18 @@ fn answer(rt: &impl Print, data: &[u8], room: &mut [u8]) -> io::Result<()> {
 }
 
 fn filled() -> [u8; 60000] {
-    let mut data = [0u8; 60000];
-    let mut i: usize = 0;
-    while i < 60000 {
-        data[i] = (i % 251) as u8;
-        i += 1;
-    }
-    data
+    std::array::from_fn(|i| (i % 251) as u8)
 }
 
 pub(crate) fn lengths(rt: &impl Print) -> io::Result<()> {
     let data = filled();
     let mut room = [0u8; 60000];
-    let mut i: usize = 0;
-    while i < 6 {
+    for len in LENGTHS {
         answer(
             rt,
-            octets::buffer::part(&data, crate::front(LENGTHS[i])),
+            octets::buffer::part(&data, crate::front(len)),
             &mut room,
         )?;
-        i += 1;
     }
     Ok(())
 }

@@ -15,11 +15,9 @@ pub(crate) fn number(rt: &impl Print, what: &[u8], n: usize) -> io::Result<()> {
 
 // Each byte in hexadecimal, a blank before it.
 pub(crate) fn bytes(rt: &impl Print, s: &[u8]) -> io::Result<()> {
-    let mut i = 0;
-    while i < s.len() {
-        let b = octets::byte::usize_of(s[i]);
+    for byte in s {
+        let b = octets::byte::usize_of(*byte);
         text(rt, &[b' ', DIGITS[b / 16], DIGITS[b % 16]])?;
-        i += 1;
     }
     Ok(())
 }

@@ -137,8 +137,7 @@ fn run(
     other: End,
 ) -> io::Result<()> {
     let mut at = 0;
-    let mut i = 0;
-    while i < count {
+    for _ in 0..count {
         let first = field(rows, at);
         let second = field(rows, first.start + first.len);
         let name = octets::buffer::part(rows, first);
@@ -149,7 +148,6 @@ fn run(
             of_data(rt, name, bytes, end, other)?;
         }
         at = second.start + second.len;
-        i += 1;
     }
     Ok(())
 }
@@ -162,32 +160,35 @@ pub(crate) fn rows(rt: &impl Print) -> io::Result<()> {
 
 // One data byte for each TREP.
 pub(crate) fn transfer_responses(rt: &impl Print) -> io::Result<()> {
-    let mut i: usize = 0;
-    while i < 15 {
+    for trep in TREPS {
         of_data(
             rt,
             b"positive response transfer data",
-            &[0x76, TREPS[i], 0x5A],
+            &[0x76, trep, 0x5A],
             End::Tool,
             End::Unit,
         )?;
-        i += 1;
     }
     Ok(())
 }
 
-// Every code to every request.
-pub(crate) fn negative_responses(rt: &impl Print) -> io::Result<()> {
-    let mut i: usize = 0;
-    while i < 72 {
+// Every code to the request with this SID.
+fn refusals(rt: &impl Print, sid: u8) -> io::Result<()> {
+    for code in CODES {
         of_data(
             rt,
             b"negative response",
-            &[0x7F, SIDS[i / 9], CODES[i % 9]],
+            &[0x7F, sid, code],
             End::Tool,
             End::Unit,
         )?;
-        i += 1;
+    }
+    Ok(())
+}
+
+pub(crate) fn negative_responses(rt: &impl Print) -> io::Result<()> {
+    for sid in SIDS {
+        refusals(rt, sid)?;
     }
     Ok(())
 }

@@ -1,9 +1,8 @@
-use Rattle.std.proofs.Common.{rules}
 use Rattle.octets.proofs.SumLaws.{turn_more, rest-done}
 use Rattle.octets.proofs.sum.checksum.Goals as goal
 
 pub loop-turn-preserved : goal.loop-turn-preserved
-loop-turn-preserved c = (search rules, search turn_more)
+loop-turn-preserved c = search turn_more
 
 pub returns : goal.returns
 returns c = search rest-done

@@ -8,8 +8,5 @@ use Rattle.store.proofs.CheckLaws.{misplaced}
 use Rattle.store.proofs.check.check_entries.Given as goal
 
 abbrev pub invariant-loop-i : goal.invariant-loop-i
-invariant-loop-i l = (l.i ≤ l.n) × (l.end ≡ filled_to narrow l.i l.store) × (l.end ≤ stream_length narrow l.store)
+invariant-loop-i l = (l.end ≡ filled_to narrow l.i l.store) × (l.end ≤ stream_length narrow l.store)
     × (first_of (misplaced narrow l.store) l.n ≡ first_from (misplaced narrow l.store) (l.n - l.i) l.i)
-
-abbrev pub decreases-loop-i : goal.decreases-loop-i
-decreases-loop-i l = l.n - l.i

@@ -27,16 +27,14 @@ pub loop-i-preserved : goal.loop-i-preserved
 loop-i-preserved c =
     elim c.if-above-here.branch [
       | then-above-here w ↦ (
-        search rules,
-        search-miss _ _ _ c.loop-i.invariant.1 (search rules)
-            (new-above narrow _ _ _ _ c.name_at-name.ensures c.loop-i.invariant.2 _ c.rank-here.ensures.0 w.if-above-here.true),
-        ranked-more narrow _ _ _ _ c.name_at-name.ensures c.loop-i.invariant.2 _ (search rules) (search rules),
+        search-miss _ _ _ c.loop-i.invariant.0 (search rules)
+            (new-above narrow _ _ _ _ c.name_at-name.ensures c.loop-i.invariant.1 _ c.rank-here.ensures.0 w.if-above-here.true),
+        ranked-more narrow _ _ _ _ c.name_at-name.ensures c.loop-i.invariant.1 _ (search rules) (search rules),
       )
       | else-above-here+else-earlier-i w ↦ (
-        search rules,
-        search-miss _ _ _ c.loop-i.invariant.1 (search rules)
-            (new-here narrow _ _ _ _ c.name_at-name.ensures c.loop-i.invariant.2 _ w.first_named-earlier.ensures (omega (arith, w.if-earlier-i.false))),
-        ranked-more narrow _ _ _ _ c.name_at-name.ensures c.loop-i.invariant.2 _ (search rules) (search rules),
+        search-miss _ _ _ c.loop-i.invariant.0 (search rules)
+            (new-here narrow _ _ _ _ c.name_at-name.ensures c.loop-i.invariant.1 _ w.first_named-earlier.ensures (omega (arith, w.if-earlier-i.false))),
+        ranked-more narrow _ _ _ _ c.name_at-name.ensures c.loop-i.invariant.1 _ (search rules) (search rules),
       )
     ]
 

@@ -1,5 +1,5 @@
 -- The search for a name that repeats an earlier one; every name passed ranks below `above`.
-use Prim.Native.Nat.{◌-◌, ◌≤◌}
+use Prim.Native.Nat.{◌-◌}
 use mathlib.Core.Path.{◌≡◌}
 use Rattle.octets.specs.Search.{first_from, first_of}
 use Rattle.store.specs.Layout.{narrow}
@@ -8,7 +8,4 @@ use Rattle.store.proofs.CheckLaws.{RankedBelow}
 use Rattle.store.proofs.check.first_repeat.Given as goal
 
 abbrev pub invariant-loop-i : goal.invariant-loop-i
-invariant-loop-i l = (l.i ≤ l.n) × (first_of (λ j. repeats narrow j l.store) l.n ≡ first_from (λ j. repeats narrow j l.store) (l.n - l.i) l.i) × RankedBelow narrow l.above l.i l.store
-
-abbrev pub decreases-loop-i : goal.decreases-loop-i
-decreases-loop-i l = l.n - l.i
+invariant-loop-i l = (first_of (λ j. repeats narrow j l.store) l.n ≡ first_from (λ j. repeats narrow j l.store) (l.n - l.i) l.i) × RankedBelow narrow l.above l.i l.store

@@ -1,18 +1,19 @@
 use Rattle.octets.proofs.SearchLaws.{search-start, search-hit, search-miss, search-end, found-by}
-use Rattle.store.proofs.CheckLaws.{entry_in, right_by, wrong-by}
+use Rattle.store.proofs.CheckLaws.{entry_in, tested}
 use Rattle.std.proofs.Common.{rules}
 use Rattle.store.proofs.check.first_wrong.Goals as goal
 
-ruleset all = (rules, entry_in, search-start, search-hit, search-miss, search-end, found-by, right_by, wrong-by)
+pub loop-i-init : goal.loop-i-init
+loop-i-init c = search search-start
 
 pub answer_right-requires : goal.answer_right-requires
-answer_right-requires c = search all
+answer_right-requires c = search (rules, entry_in)
 
 pub loop-i-preserved : goal.loop-i-preserved
-loop-i-preserved c = search all
+loop-i-preserved c = search (rules, search-miss, tested)
 
-pub returns-else-answer_right : goal.returns-else-answer_right
-returns-else-answer_right c = search all
+pub returns-then-not-answer_right : goal.returns-then-not-answer_right
+returns-then-not-answer_right c = search (rules, search-hit, found-by, tested)
 
-pub returns-after-loop-i : goal.returns-after-loop-i
-returns-after-loop-i c = search all
+pub returns : goal.returns
+returns c = search (rules, search-end, found-by)

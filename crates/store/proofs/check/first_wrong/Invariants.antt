@@ -1,5 +1,5 @@
 -- The answers in front that are right: all of them, or up to one that is not.
-use Prim.Native.Nat.{◌-◌, ◌≤◌}
+use Prim.Native.Nat.{◌-◌}
 use mathlib.Core.Bool.{not}
 use mathlib.Core.Path.{◌≡◌}
 use Rattle.octets.specs.Search.{first_from, first_of}
@@ -8,7 +8,4 @@ use Rattle.store.specs.Check.{answer_right}
 use Rattle.store.proofs.check.first_wrong.Given as goal
 
 abbrev pub invariant-loop-i : goal.invariant-loop-i
-invariant-loop-i l = (l.i ≤ l.n) × (first_of (λ j. not (answer_right narrow j l.store)) l.n ≡ first_from (λ j. not (answer_right narrow j l.store)) (l.n - l.i) l.i)
-
-abbrev pub decreases-loop-i : goal.decreases-loop-i
-decreases-loop-i l = l.n - l.i
+invariant-loop-i l = (first_of (λ j. not (answer_right narrow j l.store)) l.n ≡ first_from (λ j. not (answer_right narrow j l.store)) (l.n - l.i) l.i)
