@@ -3,25 +3,8 @@ ghost use Rattle.std.specs.Prelude.{◌≡◌};
 ghost use Rattle.octets.specs.Numbers.{placed};
 ghost use Rattle.octets.specs.Buffer.{part_at, copied, shifted, same_bytes};
 
+use crate::Part;
 use crate::refusal::Refusal;
-use crate::{Part, Place};
-
-// The part of `bytes` at `place`, as far as they reach.
-pub fn part(bytes: &[u8], place: Place) -> &[u8]
-    ensures { result.now ≡ part_at place.start place.len bytes.now }
-{
-    let n = bytes.len();
-    let start = place.start;
-    let len = place.len;
-    if n < start {
-        return &bytes[n..n];
-    }
-    if n - start < len {
-        return &bytes[start..n];
-    }
-    let end = start + len;
-    &bytes[start..end]
-}
 
 // The part that a call found, or none where it refused.
 pub fn found(bytes: &[u8], place: Result<Part, Refusal>) -> &[u8]

@@ -4,13 +4,11 @@
 
 pub mod buffer;
 pub mod byte;
-pub mod numbers;
 pub mod refusal;
 pub mod sum;
 pub mod wire;
 
 ghost use Rattle.std.specs.Prelude.{◌≡◌};
-ghost use Rattle.octets.specs.Numbers.{refused_place};
 ghost use Rattle.octets.specs.Buffer.{part_at};
 
 // What a call that writes hands back: number 0 and the bytes at the front of the lent buffer, or a refusal and 0.
@@ -46,17 +44,6 @@ pub struct Place {
     pub number: u8,
     pub start: usize,
     pub len: usize,
-}
-
-// A refusal, with an empty part.
-pub fn refused_place(number: u8) -> Place
-    ensures { result ≡ refused_place number }
-{
-    Place {
-        number,
-        start: 0,
-        len: 0,
-    }
 }
 
 // A count, or a refusal and 0.
