@@ -13,7 +13,7 @@ ghost use Rattle.octets.specs.Numbers.{refused_place};
 
 // What a call that writes hands back: number 0 and the bytes at the front of the lent buffer, or a refusal and 0.
 #[repr(C)]
-#[derive(Clone, Copy)]
+#[derive(Clone, Copy, Debug, PartialEq, Eq, Hash)]
 pub struct Written {
     pub number: u8,
     pub len: usize,
@@ -21,7 +21,7 @@ pub struct Written {
 
 // Where a part lies in the bytes handed in: number 0 and its place, or a refusal and an empty part.
 #[repr(C)]
-#[derive(Clone, Copy)]
+#[derive(Clone, Copy, Debug, PartialEq, Eq, Hash)]
 pub struct Place {
     pub number: u8,
     pub start: usize,
@@ -41,7 +41,7 @@ pub fn refused_place(number: u8) -> Place
 
 // A count, or a refusal and 0.
 #[repr(C)]
-#[derive(Clone, Copy)]
+#[derive(Clone, Copy, Debug, PartialEq, Eq, Hash)]
 pub struct Counted {
     pub number: u8,
     pub count: usize,
