@@ -41,7 +41,7 @@ const TRTP: [u8; 18] = [
 ];
 
 // An answer's name: which data, and for activities any second of the day.
-#[derive(Clone, Copy)]
+#[derive(Clone, Copy, Debug, PartialEq, Eq, Hash)]
 pub struct AnswerName {
     pub trep: u8,
     pub day: u32,

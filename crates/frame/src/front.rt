@@ -22,5 +22,5 @@ pub fn frame_length(received: &[u8]) -> usize
     if received.len() < 4 {
         return 0;
     }
-    octets::byte::usize_of(received[3]) + 5
+    usize::from(received[3]) + 5
 }

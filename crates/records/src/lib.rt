@@ -14,7 +14,7 @@ use octets::{Counted, Place};
 // One array of a body: its header (kind is the record type) and the place of its records in the body. Refused, all zero
 // but the number.
 #[repr(C)]
-#[derive(Clone, Copy)]
+#[derive(Clone, Copy, Debug, PartialEq, Eq, Hash)]
 pub struct Array {
     pub number: u8,
     pub kind: u8,

@@ -5,7 +5,7 @@ ghost use Rattle.records.specs.Arrays.{record_of};
 ghost use Rattle.records.specs.View.{place_in, part_in, shown, viewed, view_number, view_record, view_record_number};
 
 // The records of an array, and its header: kind is the record type. Refused, all zero with no records.
-#[derive(Clone, Copy)]
+#[derive(Clone, Copy, Debug, PartialEq, Eq, Hash)]
 pub struct ArrayView<'a> {
     pub records: &'a [u8],
     pub kind: u8,
