@@ -63,7 +63,7 @@ pub(crate) fn on_transfer(kind: u8, phase: Phase, asked: Place, data: &[u8]) -> 
     if data.len() != request_length(catalog::is_activities(trtp)) {
         return Reaction::Negative(TRANSFER_DATA, LENGTH_WRONG);
     }
-    if !crate::state::is_granted(phase) {
+    if !phase.is_granted() {
         return Reaction::Negative(TRANSFER_DATA, CONDITIONS_WRONG);
     }
     answer_from(request_name(data), SubMessage(1), asked)
@@ -100,13 +100,9 @@ fn on_code(name: AnswerName, last: SubMessage, place: Place, code: AckCode) -> R
 fn on_sending(phase: Phase, sent: Place, code: AckCode) -> Reaction
     ensures { result ≡ on_sending phase sent code }
 {
-    let refused = Reaction::Negative(ACKNOWLEDGE, CONDITIONS_WRONG);
     match phase {
-        Phase::Closed => refused,
-        Phase::Started => refused,
-        Phase::Session => refused,
-        Phase::Granted => refused,
         Phase::Sending(name, last) => on_code(name, last, sent, code),
+        _ => Reaction::Negative(ACKNOWLEDGE, CONDITIONS_WRONG),
     }
 }
 

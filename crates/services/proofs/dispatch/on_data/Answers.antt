@@ -1,39 +1,38 @@
 -- The SID picks the service.
-use Rattle.octets.proofs.Tests.{cond-t, cond-f}
+use Rattle.std.proofs.Common.{sym, ◌∙◌}
+use Rattle.octets.proofs.Tests.{cond-f}
 use Rattle.services.specs.Services.{on_data}
-use Rattle.services.proofs.ServiceLaws.{sid-is, sid-not}
+use Rattle.services.proofs.ServiceLaws.{sid-not}
 use Rattle.services.proofs.dispatch.on_data.Goals as goal
 
-ruleset all = (cond-t, cond-f, sid-is, sid-not)
-
-pub returns-then-sid-eq-DIAGNOSTIC_SESSION : goal.returns-then-sid-eq-DIAGNOSTIC_SESSION
+pub returns-in-16 : goal.returns-in-16
 unfolding on_data
-returns-then-sid-eq-DIAGNOSTIC_SESSION c = search all depth 12
+returns-in-16 c = rw (sym c.byte_at-sid.ensures ∙ c.in-16.is) c.on_session.ensures
 
-pub returns-then-sid : goal.returns-then-sid
+pub returns-in-135 : goal.returns-in-135
 unfolding on_data
-returns-then-sid c = search all depth 12
+returns-in-135 c = rw (sym c.byte_at-sid.ensures ∙ c.in-135.is) c.on_link_control.ensures
 
-pub returns-then-sid-eq-REQUEST_UPLOAD : goal.returns-then-sid-eq-REQUEST_UPLOAD
+pub returns-in-53 : goal.returns-in-53
 unfolding on_data
-returns-then-sid-eq-REQUEST_UPLOAD c = search all depth 12
+returns-in-53 c = rw (sym c.byte_at-sid.ensures ∙ c.in-53.is) c.on_upload.ensures
 
-pub returns-then-sid-eq-TRANSFER_DATA : goal.returns-then-sid-eq-TRANSFER_DATA
+pub returns-in-54 : goal.returns-in-54
 unfolding on_data
-returns-then-sid-eq-TRANSFER_DATA c = search all depth 12
+returns-in-54 c = rw (sym c.byte_at-sid.ensures ∙ c.in-54.is) c.on_transfer.ensures
 
-pub returns-then-sid-eq-TRANSFER_EXIT : goal.returns-then-sid-eq-TRANSFER_EXIT
+pub returns-in-55 : goal.returns-in-55
 unfolding on_data
-returns-then-sid-eq-TRANSFER_EXIT c = search all depth 12
+returns-in-55 c = rw (sym c.byte_at-sid.ensures ∙ c.in-55.is) c.on_exit.ensures
 
-pub returns-then-sid-2 : goal.returns-then-sid-2
+pub returns-in-130 : goal.returns-in-130
 unfolding on_data
-returns-then-sid-2 c = search all depth 12
+returns-in-130 c = rw (sym c.byte_at-sid.ensures ∙ c.in-130.is) c.on_stop.ensures
 
-pub returns-then-sid-3 : goal.returns-then-sid-3
+pub returns-in-131 : goal.returns-in-131
 unfolding on_data
-returns-then-sid-3 c = search all depth 12
+returns-in-131 c = rw (sym c.byte_at-sid.ensures ∙ c.in-131.is) c.on_acknowledge.ensures
 
-pub returns : goal.returns
+pub returns-in_default : goal.returns-in_default
 unfolding on_data
-returns c = search all depth 12
+returns-in_default c = search (cond-f, sid-not, c.byte_at-sid.ensures) depth 12

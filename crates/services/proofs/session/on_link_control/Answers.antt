@@ -10,14 +10,14 @@ pub returns-then-data-lt3 : goal.returns-then-data-lt3
 unfolding on_link_control
 returns-then-data-lt3 c = search all depth 9
 
-pub returns-then-function-eq1 : goal.returns-then-function-eq1
+pub returns-in-1 : goal.returns-in-1
 unfolding on_link_control
-returns-then-function-eq1 c = search all depth 9
+returns-in-1 c = search (all, c.in-1.is) depth 9
 
-pub returns-then-function-eq2 : goal.returns-then-function-eq2
+pub returns-in-2 : goal.returns-in-2
 unfolding on_link_control
-returns-then-function-eq2 c = search all depth 9
+returns-in-2 c = search (all, c.in-2.is) depth 9
 
-pub returns : goal.returns
+pub returns-in_default : goal.returns-in_default
 unfolding on_link_control
-returns c = search all depth 9
+returns-in_default c = search all depth 9

@@ -1,24 +1,11 @@
--- One case for each phase.
+-- The answer that is being sent decides, and outside sending each phase is possible.
 use Rattle.services.specs.State.{phase_possible}
-use Rattle.services.proofs.StateLaws.{phase-is}
+use Rattle.services.proofs.StateLaws.{phase-is, phase-other}
 use Rattle.services.proofs.state.phase_possible.Goals as goal
-
-pub returns-in-Closed : goal.returns-in-Closed
-unfolding phase_possible
-returns-in-Closed c = search phase-is
-
-pub returns-in-Started : goal.returns-in-Started
-unfolding phase_possible
-returns-in-Started c = search phase-is
-
-pub returns-in-Session : goal.returns-in-Session
-unfolding phase_possible
-returns-in-Session c = search phase-is
-
-pub returns-in-Granted : goal.returns-in-Granted
-unfolding phase_possible
-returns-in-Granted c = search phase-is
 
 pub returns-in-Sending : goal.returns-in-Sending
 unfolding phase_possible
 returns-in-Sending c = search phase-is
+
+pub returns-in_default : goal.returns-in_default
+returns-in_default c = search phase-other
