@@ -1,29 +1,29 @@
 -- One return for each byte.
-use borrow.Author.Tests.{eq-eqb, ne_eqb}
-use Rattle.octets.proofs.Tests.{cond-t, cond-f}
+use borrow.Author.Tests.{ne_eqb}
+use Rattle.octets.proofs.Tests.{cond-f}
 use Rattle.states.specs.Packed.{outcome_from}
 use Rattle.states.proofs.pack_tool.outcome_from.Goals as goal
 
-pub returns-then-byte-eq0 : goal.returns-then-byte-eq0
+pub returns-in-0 : goal.returns-in-0
 unfolding outcome_from
-returns-then-byte-eq0 c = search (cond-t, cond-f, eq-eqb, ne_eqb) depth 9
+returns-in-0 c = rw c.in-0.is
 
-pub returns-then-byte-eq1 : goal.returns-then-byte-eq1
+pub returns-in-1 : goal.returns-in-1
 unfolding outcome_from
-returns-then-byte-eq1 c = search (cond-t, cond-f, eq-eqb, ne_eqb) depth 9
+returns-in-1 c = rw c.in-1.is
 
-pub returns-then-byte-eq2 : goal.returns-then-byte-eq2
+pub returns-in-2 : goal.returns-in-2
 unfolding outcome_from
-returns-then-byte-eq2 c = search (cond-t, cond-f, eq-eqb, ne_eqb) depth 9
+returns-in-2 c = rw c.in-2.is
 
-pub returns-then-byte-eq3 : goal.returns-then-byte-eq3
+pub returns-in-3 : goal.returns-in-3
 unfolding outcome_from
-returns-then-byte-eq3 c = search (cond-t, cond-f, eq-eqb, ne_eqb) depth 9
+returns-in-3 c = rw c.in-3.is
 
-pub returns-then-byte-eq4 : goal.returns-then-byte-eq4
+pub returns-in-4 : goal.returns-in-4
 unfolding outcome_from
-returns-then-byte-eq4 c = search (cond-t, cond-f, eq-eqb, ne_eqb) depth 9
+returns-in-4 c = rw c.in-4.is
 
-pub returns : goal.returns
+pub returns-in_default : goal.returns-in_default
 unfolding outcome_from
-returns c = search (cond-t, cond-f, eq-eqb, ne_eqb) depth 9
+returns-in_default c = search (cond-f, ne_eqb) depth 9

@@ -1,25 +1,25 @@
 -- One return for each byte.
-use borrow.Author.Tests.{eq-eqb, ne_eqb}
-use Rattle.octets.proofs.Tests.{cond-t, cond-f}
+use borrow.Author.Tests.{ne_eqb}
+use Rattle.octets.proofs.Tests.{cond-f}
 use Rattle.states.specs.Packed.{phase_from}
 use Rattle.states.proofs.pack_unit.phase_from.Goals as goal
 
-pub returns-then-byte-eq0 : goal.returns-then-byte-eq0
+pub returns-in-0 : goal.returns-in-0
 unfolding phase_from
-returns-then-byte-eq0 c = search (cond-t, cond-f, eq-eqb, ne_eqb) depth 9
+returns-in-0 c = rw c.in-0.is
 
-pub returns-then-byte-eq1 : goal.returns-then-byte-eq1
+pub returns-in-1 : goal.returns-in-1
 unfolding phase_from
-returns-then-byte-eq1 c = search (cond-t, cond-f, eq-eqb, ne_eqb) depth 9
+returns-in-1 c = rw c.in-1.is
 
-pub returns-then-byte-eq2 : goal.returns-then-byte-eq2
+pub returns-in-2 : goal.returns-in-2
 unfolding phase_from
-returns-then-byte-eq2 c = search (cond-t, cond-f, eq-eqb, ne_eqb) depth 9
+returns-in-2 c = rw c.in-2.is
 
-pub returns-then-byte-eq3 : goal.returns-then-byte-eq3
+pub returns-in-3 : goal.returns-in-3
 unfolding phase_from
-returns-then-byte-eq3 c = search (cond-t, cond-f, eq-eqb, ne_eqb) depth 9
+returns-in-3 c = rw c.in-3.is
 
-pub returns : goal.returns
+pub returns-in_default : goal.returns-in_default
 unfolding phase_from
-returns c = search (cond-t, cond-f, eq-eqb, ne_eqb) depth 9
+returns-in_default c = search (cond-f, ne_eqb) depth 9
