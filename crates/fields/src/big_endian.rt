@@ -28,13 +28,11 @@ pub fn number_at(bytes: &[u8], at: usize, width: usize) -> u32
     if n - at < width {
         return 0;
     }
-    if width == 2 {
-        return u32::from(number_of_two(bytes[at], bytes[at + 1]));
+    match width {
+        2 => u32::from(number_of_two(bytes[at], bytes[at + 1])),
+        4 => number_of_four(bytes[at], bytes[at + 1], bytes[at + 2], bytes[at + 3]),
+        _ => 0,
     }
-    if width == 4 {
-        return number_of_four(bytes[at], bytes[at + 1], bytes[at + 2], bytes[at + 3]);
-    }
-    0
 }
 
 fn write_two(out: &mut [u8], at: usize, number: u32)
@@ -64,11 +62,9 @@ pub fn write_number(out: &mut [u8], at: usize, width: usize, number: u32)
     if n - at < width {
         return;
     }
-    if width == 2 {
-        write_two(out, at, number);
-        return;
-    }
-    if width == 4 {
-        write_four(out, at, number);
+    match width {
+        2 => write_two(out, at, number),
+        4 => write_four(out, at, number),
+        _ => {}
     }
 }

@@ -10,6 +10,7 @@ use catalog::AnswerName;
 use frame::{Addresses, LAB};
 use octets::Written;
 use octets::numbers::{BUFFER_SHORT, FORMAT_OR_ADDRESS, NOT_IN_TABLE};
+use progress::Request;
 
 // The state of a tool that has begun nothing. 4 for too few bytes.
 #[unsafe(no_mangle)]
@@ -55,14 +56,13 @@ pub extern "C" fn tacho_tool_begin_at(
             len: 0,
         };
     }
-    if 5 < request {
+    let Ok(asked) = Request::try_from(request) else {
         return Written {
             number: NOT_IN_TABLE,
             len: 0,
         };
-    }
+    };
     let was = states::pack_tool::unpack(state);
-    let asked = states::pack_tool::request_from(request);
     let name = AnswerName { trep, day };
     let step = tool::call::begin(Addresses { unit, tool }, was, asked, name, out);
     let next = step.state;

@@ -20,7 +20,6 @@ use Rattle.split.specs.Codes.{sub, code, next_of, acknowledge_of, repeat_of, sto
 use Rattle.split.specs.declared.SubMessage.{SubMessage}
 use Rattle.split.specs.declared.AckCode.{AckCode}
 use Rattle.services.specs.declared.Phase.{Phase}
-use Rattle.services.specs.declared.Phase.TheVariants.{Closed, Started, Session, Granted, Sending}
 use Rattle.services.specs.declared.Reaction.{Reaction}
 use Rattle.services.specs.declared.Reaction.TheVariants.{AnswerSent, AnswerStopped, Negative}
 use Rattle.services.specs.State.{is_granted, data_length_at}
@@ -143,26 +142,7 @@ module _ (name : AnswerName) (last : SubMessage) (place : Place) (n c : ℕ) (me
   pub next-such : (k : SubMessage) → last.0 + 1 ≤ c → k ≡ next_of last → AnswerSent name k place ≡ send_next name last place
   next-such k h e = rw (count-is, le-leb (last.0 + 1) c h, e)
 
--- a code is heard by the answer that is being sent
-pub sending-is : (phase p : Phase) (place : Place) (r : Reaction) (c : AckCode) → phase ≡ p → r ≡ on_sending p place c → r ≡ on_sending phase place c
-sending-is phase p place r c e q = rw e q
-
--- outside sending none is
-pub sending-other : (phase : Phase) (place : Place) (c : AckCode) → ((name : AnswerName) (last : SubMessage) → phase ≡ Sending name last → ⊥)
-    → Negative 0x83 0x22 ≡ on_sending phase place c
-unfolding on_sending
-sending-other Closed place c h = refl
-sending-other Started place c h = refl
-sending-other Session place c h = refl
-sending-other Granted place c h = refl
-sending-other (Sending name last) place c h = absurd (h name last refl)
-
 -- the code of an acknowledgement stands in its third and fourth byte
 pub code_read : (phase : Phase) (place : Place) (d : List ℕ) (r : Reaction) (c : ℕ) → length d ≡ 4 → c ≡ number_of (get_or d 2 0 ∷ get_or d 3 0 ∷ [])
     → r ≡ on_sending phase place (code c) → r ≡ on_sending phase place (code (number_at 2 2 d))
 code_read phase place d r c n e q = q ∙ ap (λ (k : ℕ). on_sending phase place (code k)) (read-two 2 d c 2 (omega arith) (omega arith) refl e)
-
--- the SID, as the code read it
-module _ (d : List ℕ) (sid t : ℕ) (read : sid ≡ get_or d 0 0) where
-  pub sid-not : (sid ≡ t → ⊥) → eqb (get_or d 0 0) t ≡ false
-  sid-not n = ne_eqb _ t (λ e. n (read ∙ e))

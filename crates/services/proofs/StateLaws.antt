@@ -1,18 +1,15 @@
 -- The state, from the tests of the code: the answer that is being sent, and what is possible.
 use Prim.Native.Nat.{ℕ, ◌<◌, ◌≤◌}
 use mathlib.Core.Bool.{Bool, true, false, not, ◌&&◌}
-use mathlib.Core.Path.{◌≡◌, refl, sym, ap, ◌∙◌}
+use mathlib.Core.Path.{◌≡◌, sym, ap, ◌∙◌}
 use lib.Dec.{eqb, ltb, leb}
 use borrow.Author.Tests.{le-leb, lt-leb, eq-eqb, ne_eqb, leb-true, ltb-true, eqb-true, not-true, not-false}
 use Rattle.octets.specs.declared.Place.{Place}
 use Rattle.octets.proofs.Tests.{and_left, and_right}
-use Rattle.catalog.specs.declared.AnswerName.{AnswerName}
 use Rattle.split.specs.Split.{single_most, is_split, count_of}
 use Rattle.split.specs.declared.SubMessage.{SubMessage}
-use Rattle.services.specs.declared.Phase.{Phase}
-use Rattle.services.specs.declared.Phase.TheVariants.{Closed, Started, Session, Granted, Sending}
 use Rattle.services.specs.declared.UnitState.{UnitState}
-use Rattle.services.specs.State.{name_sent, data_length_at, sendable, phase_possible, possible_at}
+use Rattle.services.specs.State.{data_length_at, sendable, phase_possible, possible_at}
 
 -- whether the answer at a place is split, from the code's own tests: n is the length of its data, t whether that is split
 pub split-is : (place : Place) (n : ℕ) (t : Bool) → n ≡ data_length_at place → t ≡ is_split n → is_split (data_length_at place) ≡ t
@@ -61,23 +58,7 @@ sendable-says place k e =
     }
 
 -- possible, from the answer about the phase
-pub phase-is : (phase p : Phase) (place : Place) (r : Bool) → phase ≡ p → r ≡ phase_possible place p → r ≡ phase_possible place phase
-phase-is phase p place r e q = rw e q
-
--- outside sending each is
-pub phase-other : (phase : Phase) (place : Place) → ((name : AnswerName) (last : SubMessage) → phase ≡ Sending name last → ⊥) → true ≡ phase_possible place phase
-unfolding phase_possible
-phase-other Closed place h = refl
-phase-other Started place h = refl
-phase-other Session place h = refl
-phase-other Granted place h = refl
-phase-other (Sending name last) place h = absurd (h name last refl)
-
 pub possible-is : (u : UnitState) (place : Place) (r : Bool) → r ≡ phase_possible place u.phase
     → (ltb u.kind 3 && ((leb 1 u.rate && leb u.rate 5) && (leb u.pending 5 && r))) ≡ possible_at place u
 unfolding possible_at
 possible-is u place r e = rw e
-
--- the name of the answer that is being sent, by the phase
-pub name-is : (phase p : Phase) (name : AnswerName) → phase ≡ p → name ≡ name_sent p → name ≡ name_sent phase
-name-is phase p name e q = rw e q

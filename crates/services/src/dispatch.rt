@@ -11,6 +11,7 @@ use octets::wire::{
 
 // The service by its SID, in the order of document 01's table. `sent` and `asked` are the places of the answer that is
 // being sent and of the one that is asked for.
+#[tactic(auto, unfolding(crate::specs::Services::on_data))]
 pub fn on_data(state: UnitState, sent: Place, asked: Place, data: &[u8]) -> Reaction
     ensures { result ≡ on_data sent asked state «data».now }
 {

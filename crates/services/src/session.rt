@@ -75,6 +75,7 @@ fn on_rate_change(phase: Phase, pending: u8, data: &[u8]) -> Reaction
 }
 
 // The second byte of link control is its sub function.
+#[tactic(auto, unfolding(crate::specs::Services::on_link_control))]
 pub(crate) fn on_link_control(phase: Phase, pending: u8, data: &[u8]) -> Reaction
     ensures { result ≡ on_link_control phase pending «data».now }
 {

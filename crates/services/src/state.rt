@@ -67,6 +67,7 @@ fn sendable(place: Place, message: SubMessage) -> bool
     k <= split::pieces::count_of(len)
 }
 
+#[tactic(auto, unfolding(crate::specs::State::phase_possible))]
 fn phase_possible(phase: Phase, sent: Place) -> bool
     ensures { result ≡ phase_possible sent phase }
 {

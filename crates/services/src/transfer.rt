@@ -97,6 +97,7 @@ fn on_code(name: AnswerName, last: SubMessage, place: Place, code: AckCode) -> R
     Reaction::Negative(ACKNOWLEDGE, CONDITIONS_WRONG)
 }
 
+#[tactic(auto, unfolding(crate::specs::Services::on_sending))]
 fn on_sending(phase: Phase, sent: Place, code: AckCode) -> Reaction
     ensures { result ≡ on_sending phase sent code }
 {

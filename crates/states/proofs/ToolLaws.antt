@@ -104,6 +104,22 @@ request-back requests.Exit = refl
 request-back requests.Stop = refl
 request-back requests.Transfer = refl
 
+request-least : (request : Request) → leb (request_byte request) 5 ≡ true
+request-least requests.Start = refl
+request-least requests.Session = refl
+request-least requests.Upload = refl
+request-least requests.Exit = refl
+request-least requests.Stop = refl
+request-least requests.Transfer = refl
+
+-- a request whose number is that byte is the one that stands for it
+pub request-is : (request : Request) (byte : ℕ) → request_byte request ≡ byte → request_from byte ≡ request
+request-is request byte e = sym (ap request_from e) ∙ request-back request
+
+-- and the byte is at most 5
+pub request-below : (request : Request) (byte : ℕ) → request_byte request ≡ byte → leb byte 5 ≡ true
+request-below request byte e = sym (ap (λ (x : ℕ). leb x 5) e) ∙ request-least request
+
 -- the request of a byte, as the conversion gives it; above 5 it gives none
 request-above : (byte : ℕ) → 5 < byte → requests.Transfer ≡ request_from byte
 unfolding request_from
@@ -117,7 +133,7 @@ request-above byte h =
     )
 
 pub request-read : (byte : ℕ) (r : Result Request UnknownRequest) → Requests byte r → result_unwrap_or r requests.Transfer ≡ request_from byte
-request-read byte (Ok request) e = sym (request-back request) ∙ ap request_from e
+request-read byte (Ok request) e = sym (request-is request byte e)
 request-read byte (Err x) e = request-above byte e.1
 
 outcome-back : (outcome : Outcome) → outcome_from (outcome_byte outcome) (code_byte outcome) ≡ outcome
@@ -128,14 +144,6 @@ outcome-back Done = refl
 outcome-back NoAnswer = refl
 outcome-back NoRoom = refl
 outcome-back (Refused code) = refl
-
-request-least : (request : Request) → leb (request_byte request) 5 ≡ true
-request-least requests.Start = refl
-request-least requests.Session = refl
-request-least requests.Upload = refl
-request-least requests.Exit = refl
-request-least requests.Stop = refl
-request-least requests.Transfer = refl
 
 outcome-least : (outcome : Outcome) → (leb (outcome_byte outcome) 5 && (eqb (outcome_byte outcome) 5 || eqb (code_byte outcome) 0)) ≡ true
 outcome-least Fresh = refl

@@ -42,6 +42,7 @@ pub(crate) fn code_byte(outcome: Outcome) -> u8
     }
 }
 
+#[tactic(auto, unfolding(crate::specs::Packed::outcome_from))]
 fn outcome_from(byte: u8, code: u8) -> Outcome
     ensures { result ≡ outcome_from byte code }
 {

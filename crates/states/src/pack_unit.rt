@@ -24,6 +24,7 @@ pub(crate) fn phase_byte(phase: Phase) -> u8
     }
 }
 
+#[tactic(auto, unfolding(crate::specs::Packed::phase_from))]
 fn phase_from(byte: u8, name: AnswerName, last: SubMessage) -> Phase
     ensures { result ≡ phase_from byte name last }
 {

@@ -20,7 +20,7 @@ use split::SubMessage;
 fn request_number(request: Request, name: AnswerName) -> u8
     ensures { result ≡ request_number request name }
 {
-    if progress::state::is_transfer(request) {
+    if request.is_transfer() {
         return catalog::name_number(name);
     }
     if name.trep != 0 {
@@ -40,7 +40,7 @@ fn begin_number(state: ToolState, request: Request, name: AnswerName, out_len: u
     if number != 0 {
         return number;
     }
-    if progress::state::is_waiting(outcome) {
+    if outcome.is_waiting() {
         return OUT_OF_TURN;
     }
     if out_len < FRAME_MOST {
@@ -102,7 +102,7 @@ fn event_number(state: ToolState, room_len: usize, out_len: usize) -> u8
     ensures { result ≡ event_number state room_len out_len }
 {
     let outcome = state.outcome;
-    if !progress::state::is_waiting(outcome) {
+    if !outcome.is_waiting() {
         return OUT_OF_TURN;
     }
     if !progress::state::possible(state, room_len) {

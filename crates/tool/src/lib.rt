@@ -9,7 +9,7 @@ mod room;
 
 // What a call hands back: refused, the state handed in and nothing sent; else the next state and the length of the
 // frame sent, 0 for none.
-#[derive(Clone, Copy)]
+#[derive(Clone, Copy, Debug, PartialEq, Eq, Hash)]
 pub struct ToolStep {
     pub number: u8,
     pub state: ToolState,

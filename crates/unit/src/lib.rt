@@ -9,7 +9,7 @@ use services::UnitState;
 
 // What a call hands back: refused, the state handed in and no reply; else the next state and the reply's length, 0 for
 // silence.
-#[derive(Clone, Copy)]
+#[derive(Clone, Copy, Debug, PartialEq, Eq, Hash)]
 pub struct UnitReply {
     pub number: u8,
     pub state: UnitState,

@@ -19,14 +19,14 @@ returns-then-unit-tool-clause-state_after c = search all
 pub returns-then-unit-tool-clause-out_after : goal.returns-then-unit-tool-clause-out_after
 returns-then-unit-tool-clause-out_after c = search all
 
-pub returns-then-request-gt5-clause-value : goal.returns-then-request-gt5-clause-value
-returns-then-request-gt5-clause-value c = search all
+pub returns-in_default-clause-value : goal.returns-in_default-clause-value
+returns-in_default-clause-value c = search all
 
-pub returns-then-request-gt5-clause-state_after : goal.returns-then-request-gt5-clause-state_after
-returns-then-request-gt5-clause-state_after c = search all
+pub returns-in_default-clause-state_after : goal.returns-in_default-clause-state_after
+returns-in_default-clause-state_after c = search all
 
-pub returns-then-request-gt5-clause-out_after : goal.returns-then-request-gt5-clause-out_after
-returns-then-request-gt5-clause-out_after c = search all
+pub returns-in_default-clause-out_after : goal.returns-in_default-clause-out_after
+returns-in_default-clause-out_after c = search all
 
 pub returns-clause-value : goal.returns-clause-value
 returns-clause-value c = search all
@@ -35,4 +35,4 @@ pub returns-clause-state_after : goal.returns-clause-state_after
 returns-clause-state_after c = search all
 
 pub returns-clause-out_after : goal.returns-clause-out_after
-returns-clause-out_after c = search all
+returns-clause-out_after c = search (begin-out, c.in-Ok.ensures, c.if-unit-tool.false, c.begin-step.ensures.out_after)
