@@ -28,7 +28,7 @@ use Rattle.arrival.specs.declared.Meaning.TheVariants.{Ignored, FailedWait, Conf
 use Rattle.progress.specs.State.{is_transfer}
 use Rattle.arrival.specs.Replies.{sid_sent, reply_wanted}
 use Rattle.arrival.specs.Meaning.{new_bytes, fits, meaning_of, received_by, transfer_meaning, is_refusal, refusal_meaning, data_meaning, arrival_meaning}
-use Rattle.arrival.specs.Meaning.{takes, arrival_bytes, arrival_of}
+use Rattle.arrival.specs.Meaning.{arrival_bytes, arrival_of}
 
 -- "the SID last sent", and the reply, for each request
 
@@ -107,7 +107,3 @@ module _ (a : Addresses) (room_len : ℕ) (t : ToolState) (b d : List ℕ) (l : 
       → ◌≡◌ {A = Incoming} (record { place = placed l; received = x; new = n; meaning = m }) (arrival_of a room_len t b)
   unfolding arrival_meaning
   arrival-good m part h e = arrives m (rw (number-is, h, ← data_is) e)
-
--- what is taken, by the meaning that the code matched
-pub takes_at : (m m' : Meaning) (r : Bool) → m ≡ m' → r ≡ takes m' → r ≡ takes m
-takes_at m m' r same e = rw same e

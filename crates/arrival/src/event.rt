@@ -69,7 +69,7 @@ fn data_meaning(
     if is_refusal(state, data) {
         return refusal_meaning(octets::byte::byte_at(data, 2));
     }
-    if progress::state::is_transfer(request) {
+    if request.is_transfer() {
         return meaning_of(received, crate::room::fits_in(state, new, room_len));
     }
     if crate::reply::is_reply(request, data) {
@@ -79,20 +79,16 @@ fn data_meaning(
     }
 }
 
-// Whether the frame's bytes go into the room.
-pub fn takes(meaning: Meaning) -> bool
-    ensures { result ≡ takes meaning }
-{
-    match meaning {
-        Meaning::Ignored => false,
-        Meaning::FailedWait => false,
-        Meaning::Confirmed => false,
-        Meaning::WholeAnswer => true,
-        Meaning::SubMessageTaken => true,
-        Meaning::LastTaken => true,
-        Meaning::NoRoomForAnswer => false,
-        Meaning::NoRoomForSubMessage => false,
-        Meaning::RefusedBy(_) => false,
+impl Meaning {
+    // Whether the frame's bytes go into the room.
+    #[tactic(auto, unfolding(crate::specs::Meaning::takes))]
+    pub fn takes(self) -> bool
+        ensures { result ≡ takes self }
+    {
+        matches!(
+            self,
+            Meaning::WholeAnswer | Meaning::SubMessageTaken | Meaning::LastTaken
+        )
     }
 }
 

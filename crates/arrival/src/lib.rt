@@ -10,7 +10,7 @@ mod reply;
 pub mod room;
 
 // What an event means to a waiting tool.
-#[derive(Clone, Copy, Debug, PartialEq, Eq)]
+#[derive(Clone, Copy, Debug, PartialEq, Eq, Hash)]
 pub enum Meaning {
     Ignored,
     // a wait's end, a frame refused by the frame rules, or a number above the one expected
@@ -33,7 +33,7 @@ pub enum Meaning {
 
 // A string that arrives: where its data lies, what that is of the answer, how many bytes it adds to those held where it
 // is taken, and what it means.
-#[derive(Clone, Copy, Debug, PartialEq, Eq)]
+#[derive(Clone, Copy, Debug, PartialEq, Eq, Hash)]
 pub struct Arrival {
     pub data: Result<Part, Refusal>,
     pub received: Received,

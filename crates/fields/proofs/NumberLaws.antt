@@ -2,16 +2,19 @@
 use Prim.Native.Nat.{ℕ, zero, suc, ◌+◌, ◌-◌, ◌*◌, ◌/◌, ◌%◌, ◌^◌, ◌<◌, ◌≤◌}
 use mathlib.Core.Bool.{Bool, true, false, cond, ◌&&◌}
 use mathlib.Core.List.{List, [], ◌∷◌, ◌++◌}
-use mathlib.Core.Path.{◌≡◌, refl, ◌∙◌}
+use mathlib.Core.Path.{◌≡◌, refl, sym, ap, ◌∙◌}
 use native.Mathlib.Omega.{arith}
 use native.Mathlib.Numerals.{add-one}
-use lib.ListN.{length, get_or, take, drop, set, length-append, length-drop}
+use native.Mathlib.Nat as nat
+use lib.ListN.{length, get_or, take, drop, length-append, length-drop}
 use lib.Seq.{take-suc, drop-cons, get_or-drop}
 use lib.Dec.{leb}
 use borrow.Author.Tests.{le-leb, lt-leb, ne_eqb, leb-true}
 use Rattle.octets.specs.Buffer.{Bytes, part_at, put}
 use Rattle.fields.specs.BigEndian.{number_from, number_of, bytes_of, field_width, field_fits, number_at, with_number}
-use Rattle.octets.proofs.BufferLaws.{stores-put}
+use borrow.Rule.Slice.PartMut.{put_mid}
+use Rattle.std.proofs.Common.{append_assoc, drop-drop}
+use Rattle.std.specs.Int.{w16, w32, to_be_bytes}
 
 -- one byte more at the end
 pub number-snoc : (a : ℕ) (s : List ℕ) (x : ℕ) → number_from a (s ++ (x ∷ [])) ≡ number_from a s * 256 + x
@@ -62,6 +65,13 @@ number_fits width at s b = go (leb (at + width) (length s)) refl (field_width wi
     go false e false = some-power width
 
 -- Fields
+
+-- the bytes that the library's method gives
+pub be-two : (n : ℕ) → to_be_bytes w16 n ≡ bytes_of 2 n
+be-two n = refl
+
+pub be-four : (n : ℕ) → to_be_bytes w32 n ≡ bytes_of 4 n
+be-four n = rw (nat.div-div-eq-div-mul n 256 256, nat.div-div-eq-div-mul n 65536 256) refl
 
 module _ (at : ℕ) (s : List ℕ) where
   part-two : at + 2 ≤ length s → part_at at 2 s ≡ get_or s at 0 ∷ get_or s (at + 1) 0 ∷ []
@@ -134,12 +144,18 @@ module _ (at : ℕ) (s : List ℕ) where
   write-field w width n o a h e f q =
       rw (e, f, le-leb (at + w) (length s) (omega arith)) q
 
-  pub stored-two : (n : ℕ) → at + 2 ≤ length s → set (set s at (n / 256 % 256)) (at + 1) (n % 256) ≡ put at (bytes_of 2 n) s
-  stored-two n h = rw (add-one at) (stores-put at (bytes_of 2 n) s h)
+  -- the bytes of a field copied to its place
+  copied-field : (width n : ℕ) (bytes : List ℕ) → bytes ≡ bytes_of width n → put_mid at (at + width - at) s bytes ≡ put at (bytes_of width n) s
+  unfolding put
+  copied-field width n bytes e =
+      let k : at + width - at ≡ width = omega arith in
+      rw (e, k)
+      (ap (λ (t : List ℕ). take at s ++ (bytes_of width n ++ t))
+      (drop-drop width at s ∙ ap (λ (m : ℕ). drop (at + m) s) (sym (length-bytes width n)))
+      ∙ sym (append_assoc (take at s) (bytes_of width n) _))
 
-  pub stored-four : (n : ℕ) → at + 4 ≤ length s →
-      set (set (set (set s at (n / 256 / 256 / 256 % 256)) (at + 1) (n / 256 / 256 % 256)) (at + 2) (n / 256 % 256)) (at + 3) (n % 256) ≡ put at (bytes_of 4 n) s
-  stored-four n h =
-      let two : at + 2 ≡ suc (suc at) = omega arith in
-      let three : at + 3 ≡ suc (suc (suc at)) = omega arith in
-      rw (add-one at, two, three) (stores-put at (bytes_of 4 n) s h)
+  pub copied-two : (n : ℕ) (bytes : List ℕ) → bytes ≡ to_be_bytes w16 n → put_mid at (at + 2 - at) s bytes ≡ put at (bytes_of 2 n) s
+  copied-two n bytes e = copied-field 2 n bytes (e ∙ be-two n)
+
+  pub copied-four : (n : ℕ) (bytes : List ℕ) → bytes ≡ to_be_bytes w32 n → put_mid at (at + 4 - at) s bytes ≡ put at (bytes_of 4 n) s
+  copied-four n bytes e = copied-field 4 n bytes (e ∙ be-four n)

@@ -3,24 +3,18 @@ ghost use Rattle.std.specs.Prelude.{◌≡◌, [], ◌∷◌, ◌+◌, ◌≤◌
 ghost use Rattle.fields.specs.BigEndian.{number_of, bytes_of, number_at, with_number};
 ghost use Rattle.octets.specs.Buffer.{put};
 
-fn u32_of(byte: u8) -> u32
-    ensures { (result ≡ byte) × (result < 256) }
-{
-    byte as u32
-}
-
 // The number in two bytes.
 pub fn number_of_two(high: u8, low: u8) -> u16
     ensures { result ≡ number_of (high ∷ low ∷ []) }
 {
-    (high as u16) * 256 + (low as u16)
+    u16::from_be_bytes([high, low])
 }
 
 // The number in four bytes.
 pub fn number_of_four(a: u8, b: u8, c: u8, d: u8) -> u32
     ensures { result ≡ number_of (a ∷ b ∷ c ∷ d ∷ []) }
 {
-    ((u32_of(a) * 256 + u32_of(b)) * 256 + u32_of(c)) * 256 + u32_of(d)
+    u32::from_be_bytes([a, b, c, d])
 }
 
 // The number in the `width` bytes from `at` on: 0 for a width other than 2 and 4, and where the bytes end before.
@@ -34,31 +28,26 @@ pub fn number_at(bytes: &[u8], at: usize, width: usize) -> u32
     if n - at < width {
         return 0;
     }
-    if width == 2 {
-        return number_of_two(bytes[at], bytes[at + 1]) as u32;
+    match width {
+        2 => u32::from(number_of_two(bytes[at], bytes[at + 1])),
+        4 => number_of_four(bytes[at], bytes[at + 1], bytes[at + 2], bytes[at + 3]),
+        _ => 0,
     }
-    if width == 4 {
-        return number_of_four(bytes[at], bytes[at + 1], bytes[at + 2], bytes[at + 3]);
-    }
-    0
 }
 
 fn write_two(out: &mut [u8], at: usize, number: u32)
     requires { at + 2 ≤ length out.old }
     ensures { out.new ≡ put at (bytes_of 2 number) out.old }
 {
-    out[at] = (number / 256 % 256) as u8;
-    out[at + 1] = (number % 256) as u8;
+    let [_, _, high, low] = number.to_be_bytes();
+    out[at..at + 2].copy_from_slice(&[high, low]);
 }
 
 fn write_four(out: &mut [u8], at: usize, number: u32)
     requires { at + 4 ≤ length out.old }
     ensures { out.new ≡ put at (bytes_of 4 number) out.old }
 {
-    out[at] = (number / 256 / 256 / 256 % 256) as u8;
-    out[at + 1] = (number / 256 / 256 % 256) as u8;
-    out[at + 2] = (number / 256 % 256) as u8;
-    out[at + 3] = (number % 256) as u8;
+    out[at..at + 4].copy_from_slice(&number.to_be_bytes());
 }
 
 // Writes `number` into the `width` bytes from `at` on; nothing for another width than 2 and 4, or where the bytes end
@@ -73,11 +62,9 @@ pub fn write_number(out: &mut [u8], at: usize, width: usize, number: u32)
     if n - at < width {
         return;
     }
-    if width == 2 {
-        write_two(out, at, number);
-        return;
-    }
-    if width == 4 {
-        write_four(out, at, number);
+    match width {
+        2 => write_two(out, at, number),
+        4 => write_four(out, at, number),
+        _ => {}
     }
 }

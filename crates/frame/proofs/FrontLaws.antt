@@ -18,25 +18,21 @@ use Rattle.frame.specs.Front.{frame_length}
 use Rattle.frame.proofs.CheckLaws.{good, count-start, count-general}
 
 module _ (s : List ℕ) where
-  pub front-none : length s ≡ 0 → 0 ≡ frame_length s
+  front-none : length s ≡ 0 → 0 ≡ frame_length s
   unfolding frame_length
   front-none e = rw e
 
   module _ (some : length s ≡ 0 → ⊥) where
-    pub front-start : get_or s 0 0 ≡ 0x81 → 5 ≡ frame_length s
+    front-start : get_or s 0 0 ≡ 0x81 → 5 ≡ frame_length s
     unfolding frame_length
     front-start e = rw (ne_eqb (length s) 0 some, e)
 
-    pub front-other : (get_or s 0 0 ≡ 0x81 → ⊥) → (get_or s 0 0 ≡ 0x80 → ⊥) → 1 ≡ frame_length s
-    unfolding frame_length
-    front-other n m = rw (ne_eqb (length s) 0 some, ne_eqb (get_or s 0 0) 0x81 n, ne_eqb (get_or s 0 0) 0x80 m)
-
     module _ (general : get_or s 0 0 ≡ 0x80) where
-      pub front-few : length s < 4 → 0 ≡ frame_length s
+      front-few : length s < 4 → 0 ≡ frame_length s
       unfolding frame_length
       front-few l = rw (ne_eqb (length s) 0 some, general, lt-leb 4 (length s) l)
 
-      pub front_long : (n : ℕ) → 4 ≤ length s → n ≡ get_or s 3 0 → n + 5 ≡ frame_length s
+      front_long : (n : ℕ) → 4 ≤ length s → n ≡ get_or s 3 0 → n + 5 ≡ frame_length s
       unfolding frame_length
       front_long n l e = rw (ne_eqb (length s) 0 some, general, le-leb 4 (length s) l, e)
 

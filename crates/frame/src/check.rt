@@ -46,7 +46,7 @@ fn count_right(frame: &[u8]) -> bool
     if len == 0 {
         return false;
     }
-    frame.len() == octets::byte::usize_of(len) + 5
+    frame.len() == usize::from(len) + 5
 }
 
 fn start_right(frame: &[u8], end: End) -> bool
@@ -128,7 +128,7 @@ fn data_in(frame: &[u8]) -> Part
     }
     Part {
         start: 4,
-        len: octets::byte::usize_of(frame[3]),
+        len: usize::from(frame[3]),
     }
 }
 

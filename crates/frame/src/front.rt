@@ -6,21 +6,15 @@ use crate::{GENERAL, WITHOUT_LEN};
 
 // The length of the frame at the front of the bytes received so far, 0 while more are needed to tell. A byte that
 // begins no frame is 1.
+#[tactic(auto, unfolding(crate::specs::Front::frame_length))]
 pub fn frame_length(received: &[u8]) -> usize
     ensures { result ≡ frame_length received.now }
 {
-    if received.len() == 0 {
-        return 0;
+    match received {
+        [] => 0,
+        [WITHOUT_LEN, ..] => 5,
+        [GENERAL, _, _, len, ..] => usize::from(*len) + 5,
+        [GENERAL, ..] => 0,
+        _ => 1,
     }
-    let first = received[0];
-    if first == WITHOUT_LEN {
-        return 5;
-    }
-    if first != GENERAL {
-        return 1;
-    }
-    if received.len() < 4 {
-        return 0;
-    }
-    octets::byte::usize_of(received[3]) + 5
 }

@@ -17,14 +17,14 @@ pub mod messages;
 pub mod write;
 
 // The two ends of the line.
-#[derive(Clone, Copy)]
+#[derive(Clone, Copy, Debug, PartialEq, Eq, Hash)]
 pub enum End {
     Unit,
     Tool,
 }
 
 // The addresses of both ends.
-#[derive(Clone, Copy)]
+#[derive(Clone, Copy, Debug, PartialEq, Eq, Hash)]
 pub struct Addresses {
     pub unit: u8,
     pub tool: u8,

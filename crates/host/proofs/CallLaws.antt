@@ -34,11 +34,11 @@ use Rattle.progress.specs.State as tool-state
 use Rattle.tool.specs.Call.{request_number, begin_number, begin_result, begin_result_given, begin_out_given, event_number, event_result}
 use Rattle.tool.specs.Call.{arrival_result_given, arrival_room_given, arrival_out_given, wait_result_given, wait_out_given}
 use Rattle.tool.specs.Call.{event_result_given}
-use Rattle.states.specs.Packed.{packed_unit, is_unit, no_unit, unpacked_unit, request_from, packed_tool, is_tool, no_tool, unpacked_tool}
+use Rattle.states.specs.Packed.{packed_unit, is_unit, no_unit, unpacked_unit, request_byte, packed_tool, is_tool, no_tool, unpacked_tool}
 use Rattle.host.specs.Calls.{unit_fresh_number, unit_fresh_state, unit_handed, unit_kept, unit_step, unit_step_reply, tool_fresh_number, tool_fresh_state, tool_handed}
 use Rattle.host.specs.Calls.{tool_kept, tool_begin, tool_begin_out, tool_arrival, tool_arrival_room, tool_arrival_out, tool_wait, tool_wait_out}
 use Rattle.states.proofs.UnitLaws.{length-unit, unit-none, unit_size}
-use Rattle.states.proofs.ToolLaws.{length-tool, tool-none, tool-size}
+use Rattle.states.proofs.ToolLaws.{length-tool, tool-none, tool-size, request-is, request-below}
 
 -- The state bytes b after a call with number n that is not refused: the bytes p of its next state fill the whole buffer
 pub kept-accepted : (n : ℕ) (p b b' : List ℕ) → (n ≡ 0 → length b ≡ length p) → n ≡ 0 → b' ≡ copied p b → b' ≡ changed_by n p b
@@ -236,14 +236,14 @@ module _ (a : Addresses) (b : List ℕ) (request : ℕ) (name : AnswerName) wher
     unfolding tool_begin_out
     begin-none-out out h = rw (other, lt-leb request 5 h)
 
-    module _ (h : request ≤ 5) (t : ToolState) (r : Request) (e : t ≡ unpacked_tool b) (q : r ≡ request_from request) where
+    module _ (t : ToolState) (r : Request) (e : t ≡ unpacked_tool b) (q : request_byte r ≡ request) where
       pub begin-called : (step : ToolStep) (out : ℕ) → step ≡ begin_result_given a t r name out → step ≡ tool_begin a b request name out
       unfolding tool_begin begin_result_given
-      begin-called step out s = rw (le-leb request 5 h, ← e, ← q) s
+      begin-called step out s = rw (request-below r request q, ← e, request-is r request q) s
 
       pub begin-out : (out out' : List ℕ) → out' ≡ begin_out_given a t r name out → out' ≡ tool_begin_out a b request name out
       unfolding tool_begin_out begin_out_given
-      begin-out out out' s = rw (le-leb request 5 h, ← e, ← q) s
+      begin-out out out' s = rw (request-below r request q, ← e, request-is r request q) s
 
 -- a fresh tool, from the test of the code
 module _ (b : List ℕ) where

@@ -13,7 +13,7 @@ use store::{Fault, HeldAnswer};
 
 // One answer of a store: TREP, day and place, or a refusal and zeros.
 #[repr(C)]
-#[derive(Clone, Copy)]
+#[derive(Clone, Copy, Debug, PartialEq, Eq, Hash)]
 pub struct Held {
     pub number: u8,
     pub trep: u8,

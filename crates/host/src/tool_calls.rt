@@ -11,6 +11,7 @@ use catalog::AnswerName;
 use frame::{Addresses, LAB};
 use octets::Written;
 use octets::refusal::Refusal;
+use progress::Request;
 
 // The state of a tool that has begun nothing. 4 for too few bytes.
 fn fresh(state: &mut [u8]) -> Result<(), Refusal>
@@ -47,11 +48,8 @@ fn begin(
     ensures out_after { out.new ≡ tool_begin_out addresses state.old request name out.old }
 {
     addresses.differ()?;
-    if 5 < request {
-        return Err(Refusal::NotInTable);
-    }
+    let asked = Request::try_from(request)?;
     let was = states::pack_tool::unpack(state);
-    let asked = states::pack_tool::request_from(request);
     let step = tool::call::begin(addresses, was, asked, name, out)?;
     octets::buffer::copy_in(state, &states::pack_tool::pack(step.state));
     Ok(step.len)

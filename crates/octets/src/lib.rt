@@ -13,14 +13,14 @@ ghost use Rattle.octets.specs.Buffer.{part_at};
 
 // What a call that writes hands back: number 0 and the bytes at the front of the lent buffer, or a refusal and 0.
 #[repr(C)]
-#[derive(Clone, Copy)]
+#[derive(Clone, Copy, Debug, PartialEq, Eq, Hash)]
 pub struct Written {
     pub number: u8,
     pub len: usize,
 }
 
 // A part of some bytes.
-#[derive(Clone, Copy, Debug, PartialEq, Eq)]
+#[derive(Clone, Copy, Debug, PartialEq, Eq, Hash)]
 pub struct Part {
     pub start: usize,
     pub len: usize,
@@ -39,7 +39,7 @@ impl Part {
 
 // Where a part lies in the bytes handed in: number 0 and its place, or a refusal and an empty part.
 #[repr(C)]
-#[derive(Clone, Copy)]
+#[derive(Clone, Copy, Debug, PartialEq, Eq, Hash)]
 pub struct Place {
     pub number: u8,
     pub start: usize,
@@ -48,7 +48,7 @@ pub struct Place {
 
 // A count, or a refusal and 0.
 #[repr(C)]
-#[derive(Clone, Copy)]
+#[derive(Clone, Copy, Debug, PartialEq, Eq, Hash)]
 pub struct Counted {
     pub number: u8,
     pub count: usize,

@@ -4,11 +4,12 @@
 use catalog::AnswerName;
 use split::SubMessage;
 
+pub mod codes;
 pub mod next;
 pub mod state;
 
 // "One request at a time: start, session, upload, exit, stop or a transfer."
-#[derive(Clone, Copy, Debug, PartialEq, Eq)]
+#[derive(Clone, Copy, Debug, PartialEq, Eq, Hash)]
 pub enum Request {
     Start,
     Session,
@@ -19,7 +20,7 @@ pub enum Request {
 }
 
 // How the last request stands; Fresh: nothing was begun.
-#[derive(Clone, Copy, Debug, PartialEq, Eq)]
+#[derive(Clone, Copy, Debug, PartialEq, Eq, Hash)]
 pub enum Outcome {
     Fresh,
     Waiting,
@@ -32,7 +33,7 @@ pub enum Outcome {
 
 // The request with its TREP and day, how it stands, the sendings of its last frame, the sub message expected and the
 // bytes held.
-#[derive(Clone, Copy, Debug, PartialEq, Eq)]
+#[derive(Clone, Copy, Debug, PartialEq, Eq, Hash)]
 pub struct ToolState {
     pub request: Request,
     pub outcome: Outcome,

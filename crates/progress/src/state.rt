@@ -24,29 +24,19 @@ pub fn fresh() -> ToolState
     }
 }
 
-pub fn is_transfer(request: Request) -> bool
-    ensures { result ≡ is_transfer request }
-{
-    match request {
-        Request::Start => false,
-        Request::Session => false,
-        Request::Upload => false,
-        Request::Exit => false,
-        Request::Stop => false,
-        Request::Transfer => true,
+impl Request {
+    pub fn is_transfer(self) -> bool
+        ensures { result ≡ is_transfer self }
+    {
+        self == Request::Transfer
     }
 }
 
-pub fn is_waiting(outcome: Outcome) -> bool
-    ensures { result ≡ is_waiting outcome }
-{
-    match outcome {
-        Outcome::Fresh => false,
-        Outcome::Waiting => true,
-        Outcome::Done => false,
-        Outcome::NoAnswer => false,
-        Outcome::NoRoom => false,
-        Outcome::Refused(_) => false,
+impl Outcome {
+    pub fn is_waiting(self) -> bool
+        ensures { result ≡ is_waiting self }
+    {
+        self == Outcome::Waiting
     }
 }
 
@@ -88,7 +78,7 @@ pub fn possible(state: ToolState, room_len: usize) -> bool
     let outcome = state.outcome;
     let request = state.request;
     let sendings = state.sendings;
-    if !is_waiting(outcome) {
+    if !outcome.is_waiting() {
         return true;
     }
     if sendings < 1 {
@@ -97,7 +87,7 @@ pub fn possible(state: ToolState, room_len: usize) -> bool
     if 3 < sendings {
         return false;
     }
-    if !is_transfer(request) {
+    if !request.is_transfer() {
         return true;
     }
     transfer_possible(state, room_len)

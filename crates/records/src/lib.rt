@@ -12,7 +12,7 @@ use octets::Part;
 use octets::refusal::Refusal;
 
 // An array of a body: its header (kind is the record type), and the part of the body that its records are.
-#[derive(Clone, Copy, Debug, PartialEq, Eq)]
+#[derive(Clone, Copy, Debug, PartialEq, Eq, Hash)]
 pub struct FoundArray {
     pub kind: u8,
     pub size: u16,
@@ -22,7 +22,7 @@ pub struct FoundArray {
 
 // The same for a host. Refused, all zero but the number.
 #[repr(C)]
-#[derive(Clone, Copy)]
+#[derive(Clone, Copy, Debug, PartialEq, Eq, Hash)]
 pub struct Array {
     pub number: u8,
     pub kind: u8,

@@ -9,7 +9,7 @@ use octets::Part;
 use octets::refusal::Refusal;
 
 // The records of an array, and its header: kind is the record type. Refused, all zero with no records.
-#[derive(Clone, Copy, Debug, PartialEq, Eq)]
+#[derive(Clone, Copy, Debug, PartialEq, Eq, Hash)]
 pub struct ArrayView<'a> {
     pub records: &'a [u8],
     pub kind: u8,

@@ -1,13 +1,15 @@
 -- The frames that the tool sends, from the tests of the code; each has at most 260 bytes.
-use Prim.Native.Nat.{ℕ, ◌-◌, ◌/◌, ◌%◌, ◌≤◌}
+use Prim.Native.Nat.{ℕ, ◌-◌, ◌≤◌}
 use mathlib.Core.Bool.{Bool, true, false, cond}
 use mathlib.Core.List.{List, [], ◌∷◌}
-use mathlib.Core.Path.{◌≡◌, refl}
+use mathlib.Core.Path.{◌≡◌, refl, ◌∙◌}
 use native.Mathlib.Omega.{arith}
-use lib.ListN.{length}
+use lib.ListN.{length, get_or}
 use lib.Dec.{eqb}
 use borrow.Author.Tests.{eq-eqb, ne_eqb}
 use Rattle.fields.specs.BigEndian.{bytes_of}
+use Rattle.fields.proofs.NumberLaws.{be-two, be-four}
+use Rattle.std.specs.Int.{w16, w32, to_be_bytes}
 use Rattle.octets.specs.Buffer.{front}
 use Rattle.octets.specs.declared.Written.{Written}
 use Rattle.frame.specs.declared.Addresses.{Addresses}
@@ -41,19 +43,20 @@ module _ (a : Addresses) (name : AnswerName) (e : ℕ) (q q' : Request) (same : 
   out-request o o' h = rw same h
 
 module _ (name : AnswerName) where
-  pub request-day : is_activities name.trep ≡ true
-      → 0x36 ∷ name.trep ∷ name.day / 256 / 256 / 256 % 256 ∷ name.day / 256 / 256 % 256 ∷ name.day / 256 % 256 ∷ name.day % 256 ∷ []
-      ≡ transfer_request name
+  -- d is the bytes of the second
+  pub request-day : (d : List ℕ) → is_activities name.trep ≡ true → d ≡ to_be_bytes w32 name.day
+      → 0x36 ∷ name.trep ∷ get_or d 0 0 ∷ get_or d 1 0 ∷ get_or d 2 0 ∷ get_or d 3 0 ∷ [] ≡ transfer_request name
   unfolding transfer_request
-  request-day h = rw h
+  request-day d h e = rw (h, e ∙ be-four name.day) refl
 
   pub request-only : is_activities name.trep ≡ false → 0x36 ∷ name.trep ∷ [] ≡ transfer_request name
   unfolding transfer_request
   request-only h = rw h
 
-pub code-bytes : (code : AckCode) → 0x83 ∷ 0x76 ∷ code.0 / 256 % 256 ∷ code.0 % 256 ∷ [] ≡ acknowledgement code
+-- and so for the code
+pub code-bytes : (code : AckCode) (d : List ℕ) → d ≡ to_be_bytes w16 code.0 → 0x83 ∷ 0x76 ∷ get_or d 0 0 ∷ get_or d 1 0 ∷ [] ≡ acknowledgement code
 unfolding acknowledgement
-code-bytes code = refl
+code-bytes code d e = rw (e ∙ be-two code.0) refl
 
 pub transfer-first : (name : AnswerName) (e : ℕ) → e ≡ 1 → transfer_request name ≡ transfer_data name e
 unfolding transfer_data

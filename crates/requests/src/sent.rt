@@ -40,14 +40,8 @@ fn write_transfer_request(
     if !catalog::is_activities(trep) {
         return write_data(addresses, &[TRANSFER_DATA, trep], out);
     }
-    let data = [
-        TRANSFER_DATA,
-        trep,
-        (day / 256 / 256 / 256 % 256) as u8,
-        (day / 256 / 256 % 256) as u8,
-        (day / 256 % 256) as u8,
-        (day % 256) as u8,
-    ];
+    let [day_0, day_1, day_2, day_3] = day.to_be_bytes();
+    let data = [TRANSFER_DATA, trep, day_0, day_1, day_2, day_3];
     write_data(addresses, &data, out)
 }
 
@@ -61,8 +55,8 @@ pub fn write_acknowledgement(
     ensures out_after { out.new ≡
         send_out (frame_of addresses ends.Unit (acknowledgement code)) out.old }
 {
-    let c = code.0;
-    let data = [ACKNOWLEDGE, ANSWER, (c / 256 % 256) as u8, (c % 256) as u8];
+    let [high, low] = code.0.to_be_bytes();
+    let data = [ACKNOWLEDGE, ANSWER, high, low];
     write_data(addresses, &data, out)
 }
 

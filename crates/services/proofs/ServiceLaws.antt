@@ -147,10 +147,6 @@ module _ (name : AnswerName) (last : SubMessage) (part : Part) (n c : ℕ) (meas
   pub next-such : (k : SubMessage) → last.0 + 1 ≤ c → k ≡ next_of last → AnswerSent name k part ≡ send_next name last part
   next-such k h e = rw (count-is, le-leb (last.0 + 1) c h, e)
 
--- a code is heard by the answer that is being sent
-pub sending-is : (phase p : Phase) (place : Place) (r : Reaction) (c : AckCode) → phase ≡ p → r ≡ on_sending p place c → r ≡ on_sending phase place c
-sending-is phase p place r c e q = rw e q
-
 -- the part of the answer that is being sent, which a unit in a possible state holds
 module _ (name : AnswerName) (last : SubMessage) (c : AckCode) where
   looked-part : (sent : Option Part) → unwrap_or sent (record { start = 0; len = 0 }) ≡ part_of_place (looked_up sent)
@@ -166,11 +162,3 @@ module _ (name : AnswerName) (last : SubMessage) (c : AckCode) where
 pub code_read : (phase : Phase) (place : Place) (d : List ℕ) (r : Reaction) (c : ℕ) → length d ≡ 4 → c ≡ number_of (get_or d 2 0 ∷ get_or d 3 0 ∷ [])
     → r ≡ on_sending phase place (code c) → r ≡ on_sending phase place (code (number_at 2 2 d))
 code_read phase place d r c n e q = q ∙ ap (λ (k : ℕ). on_sending phase place (code k)) (read-two 2 d c 2 (omega arith) (omega arith) refl e)
-
--- the SID, as the code read it
-module _ (d : List ℕ) (sid t : ℕ) (read : sid ≡ get_or d 0 0) where
-  pub sid-is : sid ≡ t → eqb (get_or d 0 0) t ≡ true
-  sid-is e = eq-eqb _ t (sym read ∙ e)
-
-  pub sid-not : (sid ≡ t → ⊥) → eqb (get_or d 0 0) t ≡ false
-  sid-not n = ne_eqb _ t (λ e. n (read ∙ e))

@@ -8,12 +8,10 @@ use Rattle.octets.specs.declared.Place.{Place}
 use Rattle.octets.specs.declared.Part.{Part}
 use Rattle.octets.specs.Numbers.{part_of_place}
 use Rattle.octets.proofs.Tests.{and_left, and_right}
-use Rattle.catalog.specs.declared.AnswerName.{AnswerName}
 use Rattle.split.specs.Split.{single_most, is_split, count_of}
 use Rattle.split.specs.declared.SubMessage.{SubMessage}
-use Rattle.services.specs.declared.Phase.{Phase}
 use Rattle.services.specs.declared.UnitState.{UnitState}
-use Rattle.services.specs.State.{name_sent, data_length, data_length_at, sendable, phase_possible, possible_at}
+use Rattle.services.specs.State.{data_length, data_length_at, sendable, phase_possible, possible_at}
 
 -- whether an answer is split, from the code's own tests: n is the length of its data, t whether that is split
 pub split-is : (part : Part) (n : ℕ) (t : Bool) → n ≡ data_length part → t ≡ is_split n → is_split (data_length part) ≡ t
@@ -62,14 +60,7 @@ sendable-says place k e =
     }
 
 -- possible, from the answer about the phase
-pub phase-is : (phase p : Phase) (place : Place) (r : Bool) → phase ≡ p → r ≡ phase_possible place p → r ≡ phase_possible place phase
-phase-is phase p place r e q = rw e q
-
 pub possible-is : (u : UnitState) (place : Place) (r : Bool) → r ≡ phase_possible place u.phase
     → (ltb u.kind 3 && ((leb 1 u.rate && leb u.rate 5) && (leb u.pending 5 && r))) ≡ possible_at place u
 unfolding possible_at
 possible-is u place r e = rw e
-
--- the name of the answer that is being sent, by the phase
-pub name-is : (phase p : Phase) (name : AnswerName) → phase ≡ p → name ≡ name_sent p → name ≡ name_sent phase
-name-is phase p name e q = rw e q

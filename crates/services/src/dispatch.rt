@@ -12,31 +12,20 @@ use octets::wire::{
 
 // The service by its SID, in the order of document 01's table. `sent` and `asked` are the answer that is being sent and
 // the one that is asked for, none where it is not held.
+#[tactic(auto, unfolding(crate::specs::Services::on_data))]
 pub fn on_data(state: UnitState, sent: Option<Part>, asked: Option<Part>, data: &[u8]) -> Reaction
     ensures { result ≡ on_data (looked_up sent) (looked_up asked) state «data».now }
 {
     let phase = state.phase;
     let sid = octets::byte::byte_at(data, 0);
-    if sid == DIAGNOSTIC_SESSION {
-        return crate::session::on_session(data);
+    match sid {
+        DIAGNOSTIC_SESSION => crate::session::on_session(data),
+        LINK_CONTROL => crate::session::on_link_control(phase, state.pending, data),
+        REQUEST_UPLOAD => crate::session::on_upload(phase, data),
+        TRANSFER_DATA => crate::transfer::on_transfer(state.kind, phase, asked, data),
+        TRANSFER_EXIT => crate::session::on_exit(phase, data),
+        STOP_COMMUNICATION => crate::session::on_stop(data),
+        ACKNOWLEDGE => crate::transfer::on_acknowledge(phase, sent, data),
+        _ => Reaction::Negative(sid, SERVICE_UNKNOWN),
     }
-    if sid == LINK_CONTROL {
-        return crate::session::on_link_control(phase, state.pending, data);
-    }
-    if sid == REQUEST_UPLOAD {
-        return crate::session::on_upload(phase, data);
-    }
-    if sid == TRANSFER_DATA {
-        return crate::transfer::on_transfer(state.kind, phase, asked, data);
-    }
-    if sid == TRANSFER_EXIT {
-        return crate::session::on_exit(phase, data);
-    }
-    if sid == STOP_COMMUNICATION {
-        return crate::session::on_stop(data);
-    }
-    if sid == ACKNOWLEDGE {
-        return crate::transfer::on_acknowledge(phase, sent, data);
-    }
-    Reaction::Negative(sid, SERVICE_UNKNOWN)
 }

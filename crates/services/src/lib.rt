@@ -13,7 +13,7 @@ use octets::Part;
 use split::SubMessage;
 
 // Closed, started, session, granted, or sending: which answer, and the last number sent.
-#[derive(Clone, Copy, Debug, PartialEq, Eq)]
+#[derive(Clone, Copy, Debug, PartialEq, Eq, Hash)]
 pub enum Phase {
     Closed,
     Started,
@@ -23,7 +23,7 @@ pub enum Phase {
 }
 
 // The phase lies in the state beside kind, baud rate (1 to 5) and a pending rate, 0 for none.
-#[derive(Clone, Copy, Debug, PartialEq, Eq)]
+#[derive(Clone, Copy, Debug, PartialEq, Eq, Hash)]
 pub struct UnitState {
     pub kind: u8,
     pub rate: u8,
@@ -32,7 +32,7 @@ pub struct UnitState {
 }
 
 // What the unit does at a good frame: what it answers, and what becomes of its state.
-#[derive(Clone, Copy, Debug, PartialEq, Eq)]
+#[derive(Clone, Copy, Debug, PartialEq, Eq, Hash)]
 pub enum Reaction {
     // closed, and no start communication: silence
     Ignored,

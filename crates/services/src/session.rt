@@ -46,7 +46,7 @@ fn on_rate_offer(phase: Phase, data: &[u8]) -> Reaction
     if !is_rate_offer(data[2], rate) {
         return Reaction::Negative(LINK_CONTROL, OUT_OF_RANGE);
     }
-    if !crate::state::in_session(phase) {
+    if !phase.in_session() {
         return Reaction::Negative(LINK_CONTROL, CONDITIONS_WRONG);
     }
     Reaction::RateOffered(rate)
@@ -55,7 +55,7 @@ fn on_rate_offer(phase: Phase, data: &[u8]) -> Reaction
 fn may_change_rate(phase: Phase, pending: u8) -> bool
     ensures { result ≡ (in_session phase && not (eqb pending 0)) }
 {
-    crate::state::in_session(phase) & (pending != 0)
+    phase.in_session() & (pending != 0)
 }
 
 // Link control: 87 02 03.
@@ -75,26 +75,24 @@ fn on_rate_change(phase: Phase, pending: u8, data: &[u8]) -> Reaction
 }
 
 // The second byte of link control is its sub function.
+#[tactic(auto, unfolding(crate::specs::Services::on_link_control))]
 pub(crate) fn on_link_control(phase: Phase, pending: u8, data: &[u8]) -> Reaction
     ensures { result ≡ on_link_control phase pending «data».now }
 {
     if data.len() < 3 {
         return Reaction::Negative(LINK_CONTROL, LENGTH_WRONG);
     }
-    let function = data[1];
-    if function == 0x01 {
-        return on_rate_offer(phase, data);
+    match data[1] {
+        0x01 => on_rate_offer(phase, data),
+        0x02 => on_rate_change(phase, pending, data),
+        _ => Reaction::Negative(LINK_CONTROL, SUB_FUNCTION_UNKNOWN),
     }
-    if function == 0x02 {
-        return on_rate_change(phase, pending, data);
-    }
-    Reaction::Negative(LINK_CONTROL, SUB_FUNCTION_UNKNOWN)
 }
 
 fn may_upload(phase: Phase) -> bool
     ensures { result ≡ (in_session phase || is_granted phase) }
 {
-    crate::state::in_session(phase) | crate::state::is_granted(phase)
+    phase.in_session() | phase.is_granted()
 }
 
 // Request upload: 35, five 00, four FF.
@@ -121,7 +119,7 @@ pub(crate) fn on_exit(phase: Phase, data: &[u8]) -> Reaction
     if !octets::buffer::same(data, &frame::messages::EXIT) {
         return Reaction::Negative(TRANSFER_EXIT, LENGTH_WRONG);
     }
-    if !crate::state::is_granted(phase) {
+    if !phase.is_granted() {
         return Reaction::Negative(TRANSFER_EXIT, CONDITIONS_WRONG);
     }
     Reaction::TransferExited

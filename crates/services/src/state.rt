@@ -21,40 +21,24 @@ pub fn fresh(kind: u8) -> UnitState
     }
 }
 
-pub fn is_closed(phase: Phase) -> bool
-    ensures { result ≡ is_closed phase }
-{
-    match phase {
-        Phase::Closed => true,
-        Phase::Started => false,
-        Phase::Session => false,
-        Phase::Granted => false,
-        Phase::Sending(_, _) => false,
+impl Phase {
+    pub fn is_closed(self) -> bool
+        ensures { result ≡ is_closed self }
+    {
+        self == Phase::Closed
     }
-}
 
-pub(crate) fn in_session(phase: Phase) -> bool
-    ensures { result ≡ in_session phase }
-{
-    match phase {
-        Phase::Closed => false,
-        Phase::Started => false,
-        Phase::Session => true,
-        Phase::Granted => false,
-        Phase::Sending(_, _) => false,
+    pub(crate) fn in_session(self) -> bool
+        ensures { result ≡ in_session self }
+    {
+        self == Phase::Session
     }
-}
 
-// Whether answers may be asked for: granted, or sending one already.
-pub(crate) fn is_granted(phase: Phase) -> bool
-    ensures { result ≡ is_granted phase }
-{
-    match phase {
-        Phase::Closed => false,
-        Phase::Started => false,
-        Phase::Session => false,
-        Phase::Granted => true,
-        Phase::Sending(_, _) => true,
+    // Whether answers may be asked for: granted, or sending one already.
+    pub(crate) fn is_granted(self) -> bool
+        ensures { result ≡ is_granted self }
+    {
+        matches!(self, Phase::Granted | Phase::Sending(_, _))
     }
 }
 
@@ -84,15 +68,13 @@ fn sendable(sent: Option<Part>, message: SubMessage) -> bool
     k <= split::pieces::count_of(len)
 }
 
+#[tactic(auto, unfolding(crate::specs::State::phase_possible))]
 fn phase_possible(phase: Phase, sent: Option<Part>) -> bool
     ensures { result ≡ phase_possible (looked_up sent) phase }
 {
     match phase {
-        Phase::Closed => true,
-        Phase::Started => true,
-        Phase::Session => true,
-        Phase::Granted => true,
         Phase::Sending(_, last) => sendable(sent, last),
+        _ => true,
     }
 }
 
@@ -112,10 +94,7 @@ pub fn name_sent(phase: Phase) -> AnswerName
     ensures { result ≡ name_sent phase }
 {
     match phase {
-        Phase::Closed => NO_ANSWER,
-        Phase::Started => NO_ANSWER,
-        Phase::Session => NO_ANSWER,
-        Phase::Granted => NO_ANSWER,
         Phase::Sending(name, _) => name,
+        _ => NO_ANSWER,
     }
 }

@@ -64,7 +64,7 @@ pub(crate) fn on_transfer(kind: u8, phase: Phase, asked: Option<Part>, data: &[u
     if data.len() != request_length(catalog::is_activities(trtp)) {
         return Reaction::Negative(TRANSFER_DATA, LENGTH_WRONG);
     }
-    if !crate::state::is_granted(phase) {
+    if !phase.is_granted() {
         return Reaction::Negative(TRANSFER_DATA, CONDITIONS_WRONG);
     }
     answer_from(request_name(data), SubMessage(1), asked)
@@ -99,19 +99,16 @@ fn on_code(name: AnswerName, last: SubMessage, sent: Part, code: AckCode) -> Rea
 }
 
 // A unit in a possible state holds the answer that it is sending; beside another state there may be none.
+#[tactic(auto, unfolding(crate::specs::Services::on_sending))]
 fn on_sending(phase: Phase, sent: Option<Part>, code: AckCode) -> Reaction
     ensures { result ≡ on_sending phase (looked_up sent) code }
 {
-    let refused = Reaction::Negative(ACKNOWLEDGE, CONDITIONS_WRONG);
     match phase {
-        Phase::Closed => refused,
-        Phase::Started => refused,
-        Phase::Session => refused,
-        Phase::Granted => refused,
         Phase::Sending(name, last) => {
             let part = sent.unwrap_or(Part { start: 0, len: 0 });
             on_code(name, last, part, code)
         }
+        _ => Reaction::Negative(ACKNOWLEDGE, CONDITIONS_WRONG),
     }
 }
 

@@ -8,7 +8,7 @@ use services::UnitState;
 use std::io;
 
 // Both states, the length of the frame that is out, and how often the unit was called.
-#[derive(Clone, Copy)]
+#[derive(Clone, Copy, Debug, PartialEq, Eq, Hash)]
 pub struct Session {
     pub unit: UnitState,
     pub tool: ToolState,
@@ -21,17 +21,6 @@ pub(crate) fn front(len: usize) -> Place {
         number: 0,
         start: 0,
         len,
-    }
-}
-
-pub(crate) fn is_done(outcome: Outcome) -> bool {
-    match outcome {
-        Outcome::Fresh => false,
-        Outcome::Waiting => false,
-        Outcome::Done => true,
-        Outcome::NoAnswer => false,
-        Outcome::NoRoom => false,
-        Outcome::Refused(_) => false,
     }
 }
 
@@ -86,7 +75,7 @@ fn exchanges(
     for _ in 0..20 {
         let tool = now.tool;
         let outcome = tool.outcome;
-        if is_done(outcome) {
+        if outcome == Outcome::Done {
             return Ok(now);
         }
         now = exchange(rt, now, store, room, out)?;

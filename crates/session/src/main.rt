@@ -7,7 +7,7 @@ mod sample;
 
 use catalog::AnswerName;
 use ends::Session;
-use progress::Request;
+use progress::{Outcome, Request};
 use std::io;
 
 // The requests of a download, in order; the fourth to the sixth are transfers, the last of them activities by noon of
@@ -46,7 +46,7 @@ fn compared(
     let outcome = tool.outcome;
     let held = tool.held as usize;
     let answer = store::read::lookup(store, name_at(k));
-    if ends::is_done(outcome) {
+    if outcome == Outcome::Done {
         print::number(rt, b": done, held ", held)?;
     }
     if 0 < held && octets::buffer::same(octets::buffer::part(room, ends::front(held)), answer) {

@@ -1,6 +1,7 @@
 -- Counting, cutting and writing sub messages.
-use Rattle.std.proofs.Common.{◌≡◌, ℕ, ◌+◌, ◌-◌, ◌*◌, ◌/◌, ◌%◌, ◌<◌, ◌≤◌, min, Bool, true, false, not, leb, List, [], ◌∷◌, ◌++◌, length, take, drop, sym, refl, ap, ◌∙◌, arith, length-drop, length-take, take_all, ltb-false, ltb-true, le-ltb, lt-ltb, ne_eqb, le-leb, leb-true}
+use Rattle.std.proofs.Common.{◌≡◌, ℕ, ◌+◌, ◌-◌, ◌*◌, ◌/◌, ◌%◌, ◌<◌, ◌≤◌, min, Bool, true, false, not, leb, List, [], ◌∷◌, ◌++◌, length, get_or, take, drop, sym, refl, ap, ◌∙◌, arith, length-drop, length-take, take_all, ltb-false, ltb-true, le-ltb, lt-ltb, ne_eqb, le-leb, leb-true}
 use native.Mathlib.Decide.{dec_le}
+use Rattle.std.specs.Int.{w16, to_be_bytes}
 use lib.Seq.{take-length}
 use borrow.Author.Tests.{lt-leb}
 use Rattle.octets.specs.Numbers.{refused_place}
@@ -198,10 +199,12 @@ module _ (a : Addresses) (trep k : ℕ) (d : List ℕ) (place : Place) (is : pla
       → o' ≡ write_out a ends.Tool ((0x76 ∷ trep ∷ []) ++ d) o → (r ≡ sub_result trep k d (length o)) × (o' ≡ sub_out a trep k d o)
   sub-whole o o' r z h w v = written-sub z _ (field-whole trep k d h) o o' r w v
 
-  pub sub-piece : (p o o' : List ℕ) (r : Written) → place.number ≡ 0 → single_most < length d → p ≡ part_at place.start place.len d
-      → r ≡ write_result ((0x76 ∷ trep ∷ k / 256 % 256 ∷ k % 256 ∷ []) ++ p) (length o)
-      → o' ≡ write_out a ends.Tool ((0x76 ∷ trep ∷ k / 256 % 256 ∷ k % 256 ∷ []) ++ p) o → (r ≡ sub_result trep k d (length o)) × (o' ≡ sub_out a trep k d o)
-  sub-piece p o o' r z h q w v =
+  pub sub-piece : (b p o o' : List ℕ) (r : Written) → b ≡ to_be_bytes w16 k → place.number ≡ 0 → single_most < length d → p ≡ part_at place.start place.len d
+      → r ≡ write_result ((0x76 ∷ trep ∷ get_or b 0 0 ∷ get_or b 1 0 ∷ []) ++ p) (length o)
+      → o' ≡ write_out a ends.Tool ((0x76 ∷ trep ∷ get_or b 0 0 ∷ get_or b 1 0 ∷ []) ++ p) o → (r ≡ sub_result trep k d (length o)) × (o' ≡ sub_out a trep k d o)
+  sub-piece b p o o' r e z h q w v =
       let c : p ≡ carries k d = q ∙ ap (λ (x : Place). part_at x.start x.len d) is ∙ piece-carries k d (sym number-of-place ∙ z) in
       let t : carries k d ≡ take piece_size (drop ((k - 1) * piece_size) d) = carries-split k d h in
-      written-sub z _ (ap (λ (l : List ℕ). 0x76 ∷ trep ∷ k / 256 % 256 ∷ k % 256 ∷ l) (c ∙ t) ∙ field-split trep k d h) o o' r w v
+      written-sub z _
+      (ap (λ (l : List ℕ). 0x76 ∷ trep ∷ get_or l 0 0 ∷ get_or l 1 0 ∷ p) e
+      ∙ ap (λ (l : List ℕ). 0x76 ∷ trep ∷ k / 256 % 256 ∷ k % 256 ∷ l) (c ∙ t) ∙ field-split trep k d h) o o' r w v

@@ -8,7 +8,7 @@ use crate::{AckCode, SubMessage};
 pub fn next(last: SubMessage) -> SubMessage
     ensures { result ≡ next_of last }
 {
-    SubMessage(std::num::wrapping_add_u16(last.0, 1))
+    SubMessage(last.0.wrapping_add(1))
 }
 
 // Acknowledges this sub message and asks for the next one.

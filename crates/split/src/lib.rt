@@ -10,15 +10,15 @@ pub mod pieces;
 pub mod write;
 
 // The number of a sub message, from 1.
-#[derive(Clone, Copy, Debug, PartialEq, Eq)]
+#[derive(Clone, Copy, Debug, PartialEq, Eq, Hash)]
 pub struct SubMessage(pub u16);
 
 // The code of an acknowledgement (DDP_017). Never a sub message number: the ways from one to the other are in `codes`.
-#[derive(Clone, Copy, Debug, PartialEq, Eq)]
+#[derive(Clone, Copy, Debug, PartialEq, Eq, Hash)]
 pub struct AckCode(pub u16);
 
 // What the data of a good frame is to a tool that expects a sub message of a TREP.
-#[derive(Clone, Copy, Debug, PartialEq, Eq)]
+#[derive(Clone, Copy, Debug, PartialEq, Eq, Hash)]
 pub enum Received {
     // the whole answer, unsplit
     Whole,

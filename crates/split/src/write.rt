@@ -25,7 +25,7 @@ pub fn write_sub_message(
         let header = [ANSWER, trep];
         return frame::write::write_two(addresses, &header, data, End::Tool, out);
     }
-    let k = message.0;
-    let header = [ANSWER, trep, (k / 256 % 256) as u8, (k % 256) as u8];
+    let [high, low] = message.0.to_be_bytes();
+    let header = [ANSWER, trep, high, low];
     frame::write::write_two(addresses, &header, piece.of(data), End::Tool, out)
 }

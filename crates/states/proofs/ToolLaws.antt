@@ -1,5 +1,5 @@
 -- The tool's packed state: the functions' returns, and that packing and unpacking undo each other.
-use Prim.Native.Nat.{ℕ, zero, suc, ◌/◌, ◌%◌, ◌<◌, ◌≤◌}
+use Prim.Native.Nat.{ℕ, zero, suc, ◌<◌, ◌≤◌}
 use mathlib.Core.Bool.{true, false, ◌&&◌, ◌||◌}
 use mathlib.Core.List.{List, [], ◌∷◌, ◌++◌}
 use mathlib.Core.Path.{◌≡◌, refl, sym, ap, ap₂, ◌∙◌}
@@ -8,7 +8,8 @@ use lib.Dec.{eqb, leb}
 use lib.ListN.{length, get_or}
 use borrow.Author.Tests.{le-leb, lt-leb, eq-eqb, ne_eqb, eqb-true, leb-true}
 use Rattle.fields.specs.BigEndian.{number_of, bytes_of, number_at}
-use Rattle.fields.proofs.NumberLaws.{number-of-bytes}
+use Rattle.fields.proofs.NumberLaws.{number-of-bytes, be-two, be-four}
+use Rattle.std.specs.Int.{w16, w32, to_be_bytes}
 use Rattle.octets.proofs.Tests.{and_left, and_right}
 use Rattle.split.specs.Codes.{sub}
 use Rattle.progress.specs.declared.Request.{Request}
@@ -16,6 +17,10 @@ use Rattle.progress.specs.declared.Request.TheVariants as requests
 use Rattle.progress.specs.declared.Outcome.{Outcome}
 use Rattle.progress.specs.declared.Outcome.TheVariants.{Fresh, Waiting, Done, NoAnswer, NoRoom, Refused}
 use Rattle.progress.specs.declared.ToolState.{ToolState}
+use Rattle.progress.specs.declared.codes.UnknownRequest.{UnknownRequest}
+use Rattle.progress.specs.Codes.{Requests}
+use Rattle.std.specs.Prelude.{Result, Ok, Err}
+use Rattle.std.specs.Result.{result_unwrap_or}
 use Rattle.states.specs.Packed.{request_byte, request_from, outcome_byte, code_byte, outcome_from, packed_tool, is_tool, no_tool, unpacked_tool}
 use Rattle.states.proofs.FieldLaws.{spelled, field-two, field_back}
 
@@ -73,14 +78,16 @@ module _ (b : List ℕ) where
 
 -- Packing
 
-pub tool-packed : (t : ToolState) (x y code : ℕ) → x ≡ request_byte t.request → y ≡ outcome_byte t.outcome → code ≡ code_byte t.outcome
-    → x ∷ y ∷ code ∷ t.name.trep
-    ∷ t.name.day / 256 / 256 / 256 % 256 ∷ t.name.day / 256 / 256 % 256 ∷ t.name.day / 256 % 256 ∷ t.name.day % 256
-    ∷ t.sendings ∷ t.expected.0 / 256 % 256 ∷ t.expected.0 % 256
-    ∷ t.held / 256 / 256 / 256 % 256 ∷ t.held / 256 / 256 % 256 ∷ t.held / 256 % 256 ∷ t.held % 256 ∷ []
+-- d, e and h are the bytes of the day, the number expected and the count held
+pub tool-packed : (t : ToolState) (x y code : ℕ) (d e h : List ℕ) → x ≡ request_byte t.request → y ≡ outcome_byte t.outcome → code ≡ code_byte t.outcome
+    → d ≡ to_be_bytes w32 t.name.day → e ≡ to_be_bytes w16 t.expected.0 → h ≡ to_be_bytes w32 t.held
+    → x ∷ y ∷ code ∷ t.name.trep ∷ get_or d 0 0 ∷ get_or d 1 0 ∷ get_or d 2 0 ∷ get_or d 3 0
+    ∷ t.sendings ∷ get_or e 0 0 ∷ get_or e 1 0
+    ∷ get_or h 0 0 ∷ get_or h 1 0 ∷ get_or h 2 0 ∷ get_or h 3 0 ∷ []
     ≡ packed_tool t
 unfolding packed_tool
-tool-packed t x y code p q r = rw (← p, ← q, ← r)
+tool-packed t x y code d e h p q r u v w =
+    rw (← p, ← q, ← r, u ∙ be-four t.name.day, v ∙ be-two t.expected.0, w ∙ be-four t.held) refl
 
 pub length-tool : (t : ToolState) → length (packed_tool t) ≡ 15
 unfolding packed_tool
@@ -97,6 +104,38 @@ request-back requests.Exit = refl
 request-back requests.Stop = refl
 request-back requests.Transfer = refl
 
+request-least : (request : Request) → leb (request_byte request) 5 ≡ true
+request-least requests.Start = refl
+request-least requests.Session = refl
+request-least requests.Upload = refl
+request-least requests.Exit = refl
+request-least requests.Stop = refl
+request-least requests.Transfer = refl
+
+-- a request whose number is that byte is the one that stands for it
+pub request-is : (request : Request) (byte : ℕ) → request_byte request ≡ byte → request_from byte ≡ request
+request-is request byte e = sym (ap request_from e) ∙ request-back request
+
+-- and the byte is at most 5
+pub request-below : (request : Request) (byte : ℕ) → request_byte request ≡ byte → leb byte 5 ≡ true
+request-below request byte e = sym (ap (λ (x : ℕ). leb x 5) e) ∙ request-least request
+
+-- the request of a byte, as the conversion gives it; above 5 it gives none
+request-above : (byte : ℕ) → 5 < byte → requests.Transfer ≡ request_from byte
+unfolding request_from
+request-above byte h =
+    rw (
+      ne_eqb byte 0 (λ e. omega arith),
+      ne_eqb byte 1 (λ e. omega arith),
+      ne_eqb byte 2 (λ e. omega arith),
+      ne_eqb byte 3 (λ e. omega arith),
+      ne_eqb byte 4 (λ e. omega arith),
+    )
+
+pub request-read : (byte : ℕ) (r : Result Request UnknownRequest) → Requests byte r → result_unwrap_or r requests.Transfer ≡ request_from byte
+request-read byte (Ok request) e = sym (request-is request byte e)
+request-read byte (Err x) e = request-above byte e.1
+
 outcome-back : (outcome : Outcome) → outcome_from (outcome_byte outcome) (code_byte outcome) ≡ outcome
 unfolding outcome_from
 outcome-back Fresh = refl
@@ -105,14 +144,6 @@ outcome-back Done = refl
 outcome-back NoAnswer = refl
 outcome-back NoRoom = refl
 outcome-back (Refused code) = refl
-
-request-least : (request : Request) → leb (request_byte request) 5 ≡ true
-request-least requests.Start = refl
-request-least requests.Session = refl
-request-least requests.Upload = refl
-request-least requests.Exit = refl
-request-least requests.Stop = refl
-request-least requests.Transfer = refl
 
 outcome-least : (outcome : Outcome) → (leb (outcome_byte outcome) 5 && (eqb (outcome_byte outcome) 5 || eqb (code_byte outcome) 0)) ≡ true
 outcome-least Fresh = refl

@@ -1,5 +1,5 @@
 -- The unit's packed state: the functions' returns, and that packing and unpacking undo each other.
-use Prim.Native.Nat.{ℕ, zero, suc, ◌/◌, ◌%◌, ◌<◌, ◌≤◌}
+use Prim.Native.Nat.{ℕ, zero, suc, ◌<◌, ◌≤◌}
 use mathlib.Core.Bool.{true, false, ◌&&◌, ◌||◌}
 use mathlib.Core.List.{List, [], ◌∷◌, ◌++◌}
 use mathlib.Core.Path.{◌≡◌, refl, sym, ap, ap₂, ◌∙◌}
@@ -8,7 +8,8 @@ use lib.Dec.{eqb, leb}
 use lib.ListN.{length, get_or}
 use borrow.Author.Tests.{le-leb, lt-leb, eq-eqb, ne_eqb, eqb-true}
 use Rattle.fields.specs.BigEndian.{number_of, bytes_of, number_at}
-use Rattle.fields.proofs.NumberLaws.{number-of-bytes}
+use Rattle.fields.proofs.NumberLaws.{number-of-bytes, be-two, be-four}
+use Rattle.std.specs.Int.{w16, w32, to_be_bytes}
 use Rattle.octets.proofs.Tests.{and_left, and_right, never}
 use Rattle.catalog.specs.declared.AnswerName.{AnswerName}
 use Rattle.split.specs.declared.SubMessage.{SubMessage}
@@ -77,14 +78,15 @@ module _ (b : List ℕ) where
 
 -- Packing
 
-pub unit-packed : (u : UnitState) (byte : ℕ) (name : AnswerName) (last : SubMessage) → byte ≡ phase_byte u.phase → name ≡ name_packed u.phase
-    → last ≡ last_packed u.phase
-    → u.kind ∷ u.rate ∷ u.pending ∷ byte ∷ name.trep ∷ name.day / 256 / 256 / 256 % 256 ∷ name.day / 256 / 256 % 256 ∷ name.day / 256 % 256
-    ∷ name.day % 256
-    ∷ last.0 / 256 % 256 ∷ last.0 % 256 ∷ []
+-- d and l are the bytes of the day and the last number
+pub unit-packed : (u : UnitState) (byte : ℕ) (name : AnswerName) (last : SubMessage) (d l : List ℕ) → byte ≡ phase_byte u.phase → name ≡ name_packed u.phase
+    → last ≡ last_packed u.phase → d ≡ to_be_bytes w32 name.day → l ≡ to_be_bytes w16 last.0
+    → u.kind ∷ u.rate ∷ u.pending ∷ byte ∷ name.trep ∷ get_or d 0 0 ∷ get_or d 1 0 ∷ get_or d 2 0 ∷ get_or d 3 0
+    ∷ get_or l 0 0 ∷ get_or l 1 0 ∷ []
     ≡ packed_unit u
 unfolding packed_unit
-unit-packed u byte name last p q r = rw (← p, ← q, ← r)
+unit-packed u byte name last d l p q r v w =
+    rw (← p, ← q, ← r, v ∙ be-four name.day, w ∙ be-two last.0) refl
 
 pub length-unit : (u : UnitState) → length (packed_unit u) ≡ 11
 unfolding packed_unit

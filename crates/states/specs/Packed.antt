@@ -13,6 +13,7 @@ use Rattle.progress.specs.declared.Request.TheVariants as requests
 use Rattle.progress.specs.declared.Outcome.{Outcome}
 use Rattle.progress.specs.declared.Outcome.TheVariants.{Fresh, Waiting, Done, NoAnswer, NoRoom, Refused}
 use Rattle.progress.specs.declared.ToolState.{ToolState}
+pub use Rattle.progress.specs.Codes.{request_byte}
 use Rattle.catalog.specs.Name.{zero_name}
 
 -- The unit: kind, rate, pending rate (0 none), phase, TREP, day (4), last number sent (2)
@@ -92,15 +93,6 @@ unpacked_unit b =
 
 abbrev pub tool_size : ℕ
 tool_size = 15
-
--- 0 start, 1 session, 2 upload, 3 exit, 4 stop, 5 transfer
-abbrev pub request_byte : Request → ℕ
-request_byte requests.Start = 0
-request_byte requests.Session = 1
-request_byte requests.Upload = 2
-request_byte requests.Exit = 3
-request_byte requests.Stop = 4
-request_byte requests.Transfer = 5
 
 unfoldable pub request_from : ℕ → Request
 request_from byte =

@@ -6,7 +6,7 @@ pub mod pack_unit;
 pub mod readers;
 
 // What is read of a unit's state.
-#[derive(Clone, Copy)]
+#[derive(Clone, Copy, Debug, PartialEq, Eq, Hash)]
 pub enum UnitReading {
     Kind,
     Rate,
@@ -14,7 +14,7 @@ pub enum UnitReading {
 }
 
 // What is read of a tool's state.
-#[derive(Clone, Copy)]
+#[derive(Clone, Copy, Debug, PartialEq, Eq, Hash)]
 pub enum ToolReading {
     Outcome,
     Code,

@@ -1,6 +1,6 @@
 // The tool's state in 15 bytes: request, outcome, wire code, TREP, day (4), sendings, expected (2), held (4).
 ghost use Rattle.std.specs.Prelude.{◌≡◌, true};
-ghost use Rattle.states.specs.Packed.{request_byte, request_from, outcome_byte, code_byte, outcome_from, packed_tool};
+ghost use Rattle.states.specs.Packed.{request_from, outcome_byte, code_byte, outcome_from, packed_tool};
 ghost use Rattle.states.specs.Packed.{is_tool, no_tool, unpacked_tool};
 
 use catalog::AnswerName;
@@ -12,40 +12,14 @@ use split::SubMessage;
 // The bytes of a packed state.
 pub const SIZE: usize = 15;
 
-fn request_byte(request: Request) -> u8
-    ensures { result ≡ request_byte request }
-{
-    match request {
-        Request::Start => 0,
-        Request::Session => 1,
-        Request::Upload => 2,
-        Request::Exit => 3,
-        Request::Stop => 4,
-        Request::Transfer => 5,
-    }
-}
-
+// The request of this number; one above 5 is taken for a transfer.
 pub fn request_from(byte: u8) -> Request
     ensures { result ≡ request_from byte }
 {
-    if byte == 0 {
-        return Request::Start;
-    }
-    if byte == 1 {
-        return Request::Session;
-    }
-    if byte == 2 {
-        return Request::Upload;
-    }
-    if byte == 3 {
-        return Request::Exit;
-    }
-    if byte == 4 {
-        return Request::Stop;
-    }
-    Request::Transfer
+    Request::try_from(byte).unwrap_or(Request::Transfer)
 }
 
+// An outcome is two bytes, which the readers give one at a time, so no single conversion has it.
 pub(crate) fn outcome_byte(outcome: Outcome) -> u8
     ensures { result ≡ outcome_byte outcome }
 {
@@ -63,34 +37,23 @@ pub(crate) fn code_byte(outcome: Outcome) -> u8
     ensures { result ≡ code_byte outcome }
 {
     match outcome {
-        Outcome::Fresh => 0,
-        Outcome::Waiting => 0,
-        Outcome::Done => 0,
-        Outcome::NoAnswer => 0,
-        Outcome::NoRoom => 0,
         Outcome::Refused(code) => code,
+        _ => 0,
     }
 }
 
+#[tactic(auto, unfolding(crate::specs::Packed::outcome_from))]
 fn outcome_from(byte: u8, code: u8) -> Outcome
     ensures { result ≡ outcome_from byte code }
 {
-    if byte == 0 {
-        return Outcome::Fresh;
+    match byte {
+        0 => Outcome::Fresh,
+        1 => Outcome::Waiting,
+        2 => Outcome::Done,
+        3 => Outcome::NoAnswer,
+        4 => Outcome::NoRoom,
+        _ => Outcome::Refused(code),
     }
-    if byte == 1 {
-        return Outcome::Waiting;
-    }
-    if byte == 2 {
-        return Outcome::Done;
-    }
-    if byte == 3 {
-        return Outcome::NoAnswer;
-    }
-    if byte == 4 {
-        return Outcome::NoRoom;
-    }
-    Outcome::Refused(code)
 }
 
 // The bytes of a state.
@@ -99,25 +62,25 @@ pub fn pack(state: ToolState) -> [u8; SIZE]
 {
     let request = state.request;
     let outcome = state.outcome;
-    let day = state.name.day;
-    let expected = state.expected.0;
-    let held = state.held;
+    let [day_0, day_1, day_2, day_3] = state.name.day.to_be_bytes();
+    let [expected_0, expected_1] = state.expected.0.to_be_bytes();
+    let [held_0, held_1, held_2, held_3] = state.held.to_be_bytes();
     [
-        request_byte(request),
+        u8::from(request),
         outcome_byte(outcome),
         code_byte(outcome),
         state.name.trep,
-        (day / 256 / 256 / 256 % 256) as u8,
-        (day / 256 / 256 % 256) as u8,
-        (day / 256 % 256) as u8,
-        (day % 256) as u8,
+        day_0,
+        day_1,
+        day_2,
+        day_3,
         state.sendings,
-        (expected / 256 % 256) as u8,
-        (expected % 256) as u8,
-        (held / 256 / 256 / 256 % 256) as u8,
-        (held / 256 / 256 % 256) as u8,
-        (held / 256 % 256) as u8,
-        (held % 256) as u8,
+        expected_0,
+        expected_1,
+        held_0,
+        held_1,
+        held_2,
+        held_3,
     ]
 }
 

@@ -24,33 +24,25 @@ pub(crate) fn phase_byte(phase: Phase) -> u8
     }
 }
 
+#[tactic(auto, unfolding(crate::specs::Packed::phase_from))]
 fn phase_from(byte: u8, name: AnswerName, last: SubMessage) -> Phase
     ensures { result ≡ phase_from byte name last }
 {
-    if byte == 0 {
-        return Phase::Closed;
+    match byte {
+        0 => Phase::Closed,
+        1 => Phase::Started,
+        2 => Phase::Session,
+        3 => Phase::Granted,
+        _ => Phase::Sending(name, last),
     }
-    if byte == 1 {
-        return Phase::Started;
-    }
-    if byte == 2 {
-        return Phase::Session;
-    }
-    if byte == 3 {
-        return Phase::Granted;
-    }
-    Phase::Sending(name, last)
 }
 
 fn name_packed(phase: Phase) -> AnswerName
     ensures { result ≡ name_packed phase }
 {
     match phase {
-        Phase::Closed => AnswerName { trep: 0, day: 0 },
-        Phase::Started => AnswerName { trep: 0, day: 0 },
-        Phase::Session => AnswerName { trep: 0, day: 0 },
-        Phase::Granted => AnswerName { trep: 0, day: 0 },
         Phase::Sending(name, _) => name,
+        _ => AnswerName { trep: 0, day: 0 },
     }
 }
 
@@ -58,11 +50,8 @@ fn last_packed(phase: Phase) -> SubMessage
     ensures { result ≡ last_packed phase }
 {
     match phase {
-        Phase::Closed => SubMessage(0),
-        Phase::Started => SubMessage(0),
-        Phase::Session => SubMessage(0),
-        Phase::Granted => SubMessage(0),
         Phase::Sending(_, last) => last,
+        _ => SubMessage(0),
     }
 }
 
@@ -72,20 +61,20 @@ pub fn pack(state: UnitState) -> [u8; SIZE]
 {
     let phase = state.phase;
     let name = name_packed(phase);
-    let day = name.day;
-    let last = last_packed(phase).0;
+    let [day_0, day_1, day_2, day_3] = name.day.to_be_bytes();
+    let [last_0, last_1] = last_packed(phase).0.to_be_bytes();
     [
         state.kind,
         state.rate,
         state.pending,
         phase_byte(phase),
         name.trep,
-        (day / 256 / 256 / 256 % 256) as u8,
-        (day / 256 / 256 % 256) as u8,
-        (day / 256 % 256) as u8,
-        (day % 256) as u8,
-        (last / 256 % 256) as u8,
-        (last % 256) as u8,
+        day_0,
+        day_1,
+        day_2,
+        day_3,
+        last_0,
+        last_1,
     ]
 }
 

@@ -3,7 +3,6 @@ ghost use Rattle.std.specs.Prelude.{◌≡◌};
 ghost use Rattle.states.specs.Readers.{unit_value, unit_read, tool_value, tool_read};
 
 use crate::{ToolReading, UnitReading};
-use octets::byte::usize_of;
 use progress::ToolState;
 use services::UnitState;
 
@@ -15,9 +14,9 @@ fn unit_value(what: UnitReading, unit: UnitState) -> usize
 {
     let phase = unit.phase;
     match what {
-        UnitReading::Kind => usize_of(unit.kind),
-        UnitReading::Rate => usize_of(unit.rate),
-        UnitReading::Phase => usize_of(crate::pack_unit::phase_byte(phase)),
+        UnitReading::Kind => usize::from(unit.kind),
+        UnitReading::Rate => usize::from(unit.rate),
+        UnitReading::Phase => usize::from(crate::pack_unit::phase_byte(phase)),
     }
 }
 
@@ -35,8 +34,8 @@ fn tool_value(what: ToolReading, tool: ToolState) -> usize
 {
     let outcome = tool.outcome;
     match what {
-        ToolReading::Outcome => usize_of(crate::pack_tool::outcome_byte(outcome)),
-        ToolReading::Code => usize_of(crate::pack_tool::code_byte(outcome)),
+        ToolReading::Outcome => usize::from(crate::pack_tool::outcome_byte(outcome)),
+        ToolReading::Code => usize::from(crate::pack_tool::code_byte(outcome)),
         ToolReading::Expected => tool.expected.0 as usize,
         ToolReading::Held => tool.held as usize,
     }

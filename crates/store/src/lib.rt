@@ -28,7 +28,7 @@ pub struct Broken {
 
 // The same for a host. Number 0 and position 0: nothing.
 #[repr(C)]
-#[derive(Clone, Copy)]
+#[derive(Clone, Copy, Debug, PartialEq, Eq, Hash)]
 pub struct Fault {
     pub number: u8,
     pub position: usize,
@@ -60,14 +60,14 @@ impl From<Result<(), Broken>> for Fault {
 }
 
 // Where two answers lie, none where one is not held.
-#[derive(Clone, Copy, Debug, PartialEq, Eq)]
+#[derive(Clone, Copy, Debug, PartialEq, Eq, Hash)]
 pub struct TwoParts {
     pub first: Option<Part>,
     pub second: Option<Part>,
 }
 
 // An answer that a store holds: its name and its part of the buffer.
-#[derive(Clone, Copy, Debug, PartialEq, Eq)]
+#[derive(Clone, Copy, Debug, PartialEq, Eq, Hash)]
 pub struct HeldAnswer {
     pub name: AnswerName,
     pub part: Part,

@@ -21,7 +21,7 @@ use split::SubMessage;
 fn check_request(request: Request, name: AnswerName) -> Result<(), Refusal>
     ensures { judgement result ≡ request_number request name }
 {
-    if progress::state::is_transfer(request) {
+    if request.is_transfer() {
         return catalog::check_name(name);
     }
     if name.trep != 0 {
@@ -43,7 +43,7 @@ fn check_begin(
 {
     let outcome = state.outcome;
     check_request(request, name)?;
-    if progress::state::is_waiting(outcome) {
+    if outcome.is_waiting() {
         return Err(Refusal::OutOfTurn);
     }
     if out_len < FRAME_MOST {
@@ -93,7 +93,7 @@ fn check_event(state: ToolState, room_len: usize, out_len: usize) -> Result<(), 
     ensures { judgement result ≡ event_number state room_len out_len }
 {
     let outcome = state.outcome;
-    if !progress::state::is_waiting(outcome) {
+    if !outcome.is_waiting() {
         return Err(Refusal::OutOfTurn);
     }
     if !progress::state::possible(state, room_len) {

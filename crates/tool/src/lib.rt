@@ -9,7 +9,7 @@ mod room;
 
 // What a call hands back: the next state and the length of the frame sent, 0 for none. Refused, the state stays and
 // nothing is sent.
-#[derive(Clone, Copy, Debug, PartialEq, Eq)]
+#[derive(Clone, Copy, Debug, PartialEq, Eq, Hash)]
 pub struct Step {
     pub state: ToolState,
     pub len: usize,

@@ -37,7 +37,7 @@ pub(crate) fn take_in(
         room_after state meaning (new_bytes state received «data».now) room.old }
 {
     let held = state.held as usize;
-    if !arrival::event::takes(meaning) {
+    if !meaning.takes() {
         return;
     }
     keep_header(state, room);

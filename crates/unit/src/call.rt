@@ -45,7 +45,7 @@ fn on_good(
     if frame[0] == WITHOUT_LEN {
         return Reaction::CommunicationStarted;
     }
-    if services::state::is_closed(phase) {
+    if phase.is_closed() {
         return Reaction::Ignored;
     }
     services::dispatch::on_data(state, sent, asked, data)

@@ -1,9 +1,7 @@
--- Four stores one behind the other are the field.
-use Rattle.fields.proofs.NumberLaws.{stored-four}
+-- The bytes of the number, copied to the field's place, are the field.
+use Rattle.fields.proofs.NumberLaws.{copied-four}
 use Rattle.std.proofs.Common.{rules}
 use Rattle.fields.proofs.big_endian.write_four.Goals as goal
 
-ruleset all = (rules, stored-four)
-
 pub returns : goal.returns
-returns c = search all
+returns c = search (rules, copied-four)

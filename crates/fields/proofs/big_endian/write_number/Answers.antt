@@ -11,11 +11,11 @@ returns-then-n-at c = search all
 pub returns-then-n-at-2 : goal.returns-then-n-at-2
 returns-then-n-at-2 c = search all
 
-pub returns-then-width-eq2 : goal.returns-then-width-eq2
-returns-then-width-eq2 c = search all
+pub returns-in-2 : goal.returns-in-2
+returns-in-2 c = search all
 
-pub returns-then-width-eq4 : goal.returns-then-width-eq4
-returns-then-width-eq4 c = search all
+pub returns-in-4 : goal.returns-in-4
+returns-in-4 c = search all
 
-pub returns-else-width-eq4 : goal.returns-else-width-eq4
-returns-else-width-eq4 c = search all
+pub returns-in_default : goal.returns-in_default
+returns-in_default c = search all

@@ -22,6 +22,6 @@ returns-then-not-is_split c =
 
 pub returns : goal.returns
 returns c =
-    let piece = sub-piece c.args.addresses c.args.trep c.args.message.0 c.args.data.now _ c.in_ok-piece.ensures c.of.result.now c.args.out.now
-    c.write_two-2.new.out (written c.write_two-2.result) (search rules) (search all) c.of.ensures c.write_two-2.ensures.value c.write_two-2.ensures.out_after in
+    let piece = sub-piece c.args.addresses c.args.trep c.args.message.0 c.args.data.now _ c.in_ok-piece.ensures c.to_be_bytes.result c.of.result.now c.args.out.now
+    c.write_two-2.new.out (written c.write_two-2.result) c.to_be_bytes.ensures (search rules) (search all) c.of.ensures c.write_two-2.ensures.value c.write_two-2.ensures.out_after in
     record { value = piece.0; out_after = piece.1 }
