@@ -46,7 +46,7 @@ fn heard(rt: &impl Print, what: &[u8], frame: &[u8]) -> io::Result<()> {
     let mut reply = [0u8; 260];
     let step = unit::call::step(REMOTE, services::state::fresh(0), &EMPTY, frame, &mut reply);
     let state = step.state;
-    print::number(rt, what, octets::byte::usize_of(step.number))?;
+    print::number(rt, what, usize::from(step.number))?;
     print::text(rt, b", reply")?;
     print::bytes(rt, octets::buffer::part(&reply, crate::front(step.len)))?;
     print::text(rt, b", state")?;
@@ -63,12 +63,12 @@ fn code(rt: &impl Print) -> io::Result<()> {
     print::number(
         rt,
         b": at EE FB ",
-        octets::byte::usize_of(frame::call::check(REMOTE, frame, End::Unit)),
+        usize::from(frame::call::check(REMOTE, frame, End::Unit)),
     )?;
     print::number(
         rt,
         b", at EE F0 ",
-        octets::byte::usize_of(frame::call::check(LAB, frame, End::Unit)),
+        usize::from(frame::call::check(LAB, frame, End::Unit)),
     )?;
     print::text(rt, b"\n")
 }
@@ -86,17 +86,9 @@ fn equal(rt: &impl Print) -> io::Result<()> {
         name,
         &mut short,
     );
-    print::number(
-        rt,
-        b"at 55 55: unit step ",
-        octets::byte::usize_of(step.number),
-    )?;
-    print::number(
-        rt,
-        b", frame write ",
-        octets::byte::usize_of(written.number),
-    )?;
-    print::number(rt, b", begin ", octets::byte::usize_of(begun.number))?;
+    print::number(rt, b"at 55 55: unit step ", usize::from(step.number))?;
+    print::number(rt, b", frame write ", usize::from(written.number))?;
+    print::number(rt, b", begin ", usize::from(begun.number))?;
     print::text(rt, b"\n")
 }
 

@@ -46,7 +46,7 @@ fn shown(rt: &impl Print, bytes: &[u8]) -> io::Result<()> {
 fn appended(rt: &impl Print, store: &mut [u8], answer: &[u8], day: u32) -> io::Result<()> {
     let written = append::append(store, answer, day);
     print::number(rt, b"append by ", day as usize)?;
-    print::number(rt, b": number ", octets::byte::usize_of(written.number))?;
+    print::number(rt, b": number ", usize::from(written.number))?;
     print::number(rt, b", length ", written.len)?;
     shown(rt, octets::buffer::part(store, crate::front(written.len)))?;
     print::text(rt, b"\n")
@@ -55,7 +55,7 @@ fn appended(rt: &impl Print, store: &mut [u8], answer: &[u8], day: u32) -> io::R
 fn found(rt: &impl Print, store: &[u8], day: u32) -> io::Result<()> {
     let place = store::read::locate(store, AnswerName { trep: 0x02, day });
     print::number(rt, b"lookup by ", day as usize)?;
-    print::number(rt, b": number ", octets::byte::usize_of(place.number))?;
+    print::number(rt, b": number ", usize::from(place.number))?;
     print::number(rt, b", start ", place.start)?;
     print::number(rt, b", length ", place.len)?;
     print::text(rt, b"\n")
@@ -135,11 +135,7 @@ pub(crate) fn days(rt: &impl Print) -> io::Result<()> {
     split(rt, &mut longer)?;
     begun(rt)?;
     let fault = store::check::fault(&BROKEN);
-    print::number(
-        rt,
-        b"entry of 86401: number ",
-        octets::byte::usize_of(fault.number),
-    )?;
+    print::number(rt, b"entry of 86401: number ", usize::from(fault.number))?;
     print::number(rt, b", position ", fault.position)?;
     print::text(rt, b"\n")
 }

@@ -44,11 +44,7 @@ fn joined(rt: &impl Print, data: &[u8], room: &mut [u8], count: usize) -> io::Re
 fn answer(rt: &impl Print, data: &[u8], room: &mut [u8]) -> io::Result<()> {
     let counted = split::pieces::sub_messages(data.len());
     print::number(rt, b"", data.len())?;
-    print::number(
-        rt,
-        b" data bytes: number ",
-        octets::byte::usize_of(counted.number),
-    )?;
+    print::number(rt, b" data bytes: number ", usize::from(counted.number))?;
     print::number(rt, b", sub messages ", counted.count)?;
     let held = joined(rt, data, room, counted.count)?;
     print::number(rt, b", joined ", held)?;

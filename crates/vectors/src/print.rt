@@ -17,7 +17,7 @@ pub(crate) fn number(rt: &impl Print, what: &[u8], n: usize) -> io::Result<()> {
 pub(crate) fn bytes(rt: &impl Print, s: &[u8]) -> io::Result<()> {
     let mut i = 0;
     while i < s.len() {
-        let b = octets::byte::usize_of(s[i]);
+        let b = usize::from(s[i]);
         text(rt, &[b' ', DIGITS[b / 16], DIGITS[b % 16]])?;
         i += 1;
     }

@@ -65,12 +65,12 @@ fn judged(rt: &impl Print, name: &[u8], frame: &[u8], end: End, other: End) -> i
     print::number(
         rt,
         b": at its end ",
-        octets::byte::usize_of(frame::call::check(LAB, frame, end)),
+        usize::from(frame::call::check(LAB, frame, end)),
     )?;
     print::number(
         rt,
         b", at the other end ",
-        octets::byte::usize_of(frame::call::check(LAB, frame, other)),
+        usize::from(frame::call::check(LAB, frame, other)),
     )
 }
 
@@ -87,11 +87,7 @@ fn whole(rt: &impl Print, name: &[u8], bytes: &[u8], end: End, other: End) -> io
     let mut out = [0u8; 260];
     judged(rt, name, bytes, end, other)?;
     let written = anew(bytes, end, &mut out);
-    print::number(
-        rt,
-        b", written anew ",
-        octets::byte::usize_of(written.number),
-    )?;
+    print::number(rt, b", written anew ", usize::from(written.number))?;
     print::same(
         rt,
         octets::buffer::part(&out, crate::front(written.len)),
@@ -123,7 +119,7 @@ fn field(rows: &[u8], at: usize) -> Place
     Place {
         number: 0,
         start: at + 1,
-        len: octets::byte::usize_of(rows[at]),
+        len: usize::from(rows[at]),
     }
 }
 
