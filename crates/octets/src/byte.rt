@@ -1,12 +1,5 @@
 // Single bytes.
-ghost use Rattle.std.specs.Prelude.{◌≡◌, ◌<◌, slice_index};
-
-// A byte as a length or an index.
-pub fn usize_of(byte: u8) -> usize
-    ensures { (result ≡ byte) × (result < 256) }
-{
-    byte as usize
-}
+ghost use Rattle.std.specs.Prelude.{◌≡◌, slice_index};
 
 // The byte at `at`, or 0 behind the end.
 pub fn byte_at(bytes: &[u8], at: usize) -> u8
