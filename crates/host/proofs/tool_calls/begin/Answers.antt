@@ -15,40 +15,42 @@ returns-in_err-differ-clause-state_after c = begin-equal-kept _ _ _ _ _ c.in_err
 pub returns-in_err-differ-clause-out_after : goal.returns-in_err-differ-clause-out_after
 returns-in_err-differ-clause-out_after c = begin-equal-out _ _ _ _ _ c.in_err-differ.ensures (refused-number _) _
 
-pub returns-then-request-gt5-clause-value : goal.returns-then-request-gt5-clause-value
-returns-then-request-gt5-clause-value c = begin-none _ _ _ _ c.in_ok-differ.ensures c.if-request-gt5.true _
+pub returns-in_err-asked-clause-value : goal.returns-in_err-asked-clause-value
+returns-in_err-asked-clause-value c =
+    let none = begin-none _ c.args.state.now _ c.args.name c.in_ok-differ.ensures c.in_err-asked.ensures.1 (length c.args.out.now) in
+    search rules
 
-pub returns-then-request-gt5-clause-state_after : goal.returns-then-request-gt5-clause-state_after
-returns-then-request-gt5-clause-state_after c = begin-none-kept _ _ _ _ c.in_ok-differ.ensures c.if-request-gt5.true _
+pub returns-in_err-asked-clause-state_after : goal.returns-in_err-asked-clause-state_after
+returns-in_err-asked-clause-state_after c = begin-none-kept _ _ _ _ c.in_ok-differ.ensures c.in_err-asked.ensures.1 _
 
-pub returns-then-request-gt5-clause-out_after : goal.returns-then-request-gt5-clause-out_after
-returns-then-request-gt5-clause-out_after c = begin-none-out _ _ _ _ c.in_ok-differ.ensures _ c.if-request-gt5.true
+pub returns-in_err-asked-clause-out_after : goal.returns-in_err-asked-clause-out_after
+returns-in_err-asked-clause-out_after c = begin-none-out _ _ _ _ c.in_ok-differ.ensures _ c.in_err-asked.ensures.1
 
 pub returns-in_err-step-clause-value : goal.returns-in_err-step-clause-value
 returns-in_err-step-clause-value c =
-    let called = begin-called _ _ _ _ c.in_ok-differ.ensures c.if-request-gt5.false _ _ c.unpack-was.ensures c.request_from-asked.ensures _ _ c.in_err-step.ensures.value in
+    let called = begin-called _ _ _ _ c.in_ok-differ.ensures _ _ c.unpack-was.ensures c.in_ok-asked.ensures _ _ c.in_err-step.ensures.value in
     let handed = tool-handed _ _ called _ refl in
     search rules
 
 pub returns-in_err-step-clause-state_after : goal.returns-in_err-step-clause-state_after
 returns-in_err-step-clause-state_after c =
-    let called = begin-called _ _ _ _ c.in_ok-differ.ensures c.if-request-gt5.false _ _ c.unpack-was.ensures c.request_from-asked.ensures _ _ c.in_err-step.ensures.value in
+    let called = begin-called _ _ _ _ c.in_ok-differ.ensures _ _ c.unpack-was.ensures c.in_ok-asked.ensures _ _ c.in_err-step.ensures.value in
     tool-stays _ _ called _ (refused-number _)
 
 pub returns-in_err-step-clause-out_after : goal.returns-in_err-step-clause-out_after
 returns-in_err-step-clause-out_after c =
-    begin-out _ _ _ _ c.in_ok-differ.ensures c.if-request-gt5.false _ _ c.unpack-was.ensures c.request_from-asked.ensures _ _ c.begin.ensures.out_after
+    begin-out _ _ _ _ c.in_ok-differ.ensures _ _ c.unpack-was.ensures c.in_ok-asked.ensures _ _ c.begin.ensures.out_after
 
 pub returns-clause-value : goal.returns-clause-value
 returns-clause-value c =
-    let called = begin-called _ _ _ _ c.in_ok-differ.ensures c.if-request-gt5.false _ _ c.unpack-was.ensures c.request_from-asked.ensures _ _ c.in_ok-step.ensures.value in
+    let called = begin-called _ _ _ _ c.in_ok-differ.ensures _ _ c.unpack-was.ensures c.in_ok-asked.ensures _ _ c.in_ok-step.ensures.value in
     tool-handed _ _ called _ refl
 
 pub returns-clause-state_after : goal.returns-clause-state_after
 returns-clause-state_after c =
-    let called = begin-called _ _ _ _ c.in_ok-differ.ensures c.if-request-gt5.false _ _ c.unpack-was.ensures c.request_from-asked.ensures _ _ c.in_ok-step.ensures.value in
+    let called = begin-called _ _ _ _ c.in_ok-differ.ensures _ _ c.unpack-was.ensures c.in_ok-asked.ensures _ _ c.in_ok-step.ensures.value in
     tool-moves _ _ called _ _ _ (begin-state _ _ _ _ _ _ _ _ c.unpack-was.ensures c.in_ok-step.ensures.value c.pack.ensures) refl c.pack.ensures c.copy_in.ensures
 
 pub returns-clause-out_after : goal.returns-clause-out_after
 returns-clause-out_after c =
-    begin-out _ _ _ _ c.in_ok-differ.ensures c.if-request-gt5.false _ _ c.unpack-was.ensures c.request_from-asked.ensures _ _ c.begin.ensures.out_after
+    begin-out _ _ _ _ c.in_ok-differ.ensures _ _ c.unpack-was.ensures c.in_ok-asked.ensures _ _ c.begin.ensures.out_after
