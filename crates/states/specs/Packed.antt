@@ -1,5 +1,6 @@
 -- Packed states: the unit's in 11 bytes, the tool's in 15, numbers most significant byte first.
 -- "Packed state bytes that are no state count as impossible" (document 01, House numbers).
+use Rattle.std.specs.Prelude.{Option, Some, None}
 use Rattle.std.specs.Prelude.{ℕ, Bool, cond, ◌&&◌, ◌||◌, List, ◌∷◌, ◌++◌, length, get_or, eqb, leb}
 use Rattle.fields.specs.BigEndian.{bytes_of, number_at}
 use Rattle.catalog.specs.declared.AnswerName.{AnswerName}
@@ -89,6 +90,10 @@ unpacked_unit b =
     })
     no_unit
 
+-- the state in the bytes, if they are one
+abbrev pub unit_in : List ℕ → Option UnitState
+unit_in b = cond (is_unit b) (Some (unpacked_unit b)) None
+
 -- The tool: request, outcome, wire code, TREP, day (4), sendings, expected (2), held (4)
 
 abbrev pub tool_size : ℕ
@@ -158,3 +163,7 @@ unpacked_tool b =
       held = number_at 4 11 b;
     })
     no_tool
+
+-- the state in the bytes, if they are one
+abbrev pub tool_in : List ℕ → Option ToolState
+tool_in b = cond (is_tool b) (Some (unpacked_tool b)) None

@@ -1,7 +1,7 @@
 // The tool's state in 15 bytes: request, outcome, wire code, TREP, day (4), sendings, expected (2), held (4).
-ghost use Rattle.std.specs.Prelude.{◌≡◌, true};
+ghost use Rattle.std.specs.Prelude.{◌≡◌};
 ghost use Rattle.states.specs.Packed.{request_from, outcome_byte, code_byte, outcome_from, packed_tool};
-ghost use Rattle.states.specs.Packed.{is_tool, no_tool, unpacked_tool};
+ghost use Rattle.states.specs.Packed.{is_tool, no_tool, unpacked_tool, tool_in};
 
 use catalog::AnswerName;
 use fields::big_endian::number_at;
@@ -84,7 +84,7 @@ pub fn pack(state: ToolState) -> [u8; SIZE]
     ]
 }
 
-pub(crate) fn is_state(bytes: &[u8]) -> bool
+fn is_state(bytes: &[u8]) -> bool
     ensures { result ≡ is_tool bytes.now }
 {
     if bytes.len() != SIZE {
@@ -115,12 +115,14 @@ fn no_tool() -> ToolState
     }
 }
 
-// The state in bytes that are one.
-pub(crate) fn state_in(bytes: &[u8]) -> ToolState
-    requires { is_tool bytes.now ≡ true }
-    ensures { result ≡ unpacked_tool bytes.now }
+// The state in exactly 15 bytes; none where they are no state.
+pub(crate) fn state_in(bytes: &[u8]) -> Option<ToolState>
+    ensures { result ≡ tool_in bytes.now }
 {
-    ToolState {
+    if !is_state(bytes) {
+        return None;
+    }
+    Some(ToolState {
         request: request_from(byte_at(bytes, 0)),
         outcome: outcome_from(byte_at(bytes, 1), byte_at(bytes, 2)),
         name: AnswerName {
@@ -133,15 +135,12 @@ pub(crate) fn state_in(bytes: &[u8]) -> ToolState
             byte_at(bytes, 10),
         )),
         held: number_at(bytes, 11, 4),
-    }
+    })
 }
 
-// The state in exactly 15 bytes, or an impossible one where they are no state.
+// The same, or an impossible one where they are no state: it is refused in its turn, behind what comes before 11.
 pub fn unpack(bytes: &[u8]) -> ToolState
     ensures { result ≡ unpacked_tool bytes.now }
 {
-    if !is_state(bytes) {
-        return no_tool();
-    }
-    state_in(bytes)
+    state_in(bytes).unwrap_or(no_tool())
 }

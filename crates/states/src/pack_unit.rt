@@ -1,7 +1,7 @@
 // The unit's state in 11 bytes: kind, rate, pending rate (0 none), phase, TREP, day (4), last number sent (2).
-ghost use Rattle.std.specs.Prelude.{◌≡◌, true};
+ghost use Rattle.std.specs.Prelude.{◌≡◌};
 ghost use Rattle.states.specs.Packed.{phase_byte, phase_from, name_packed, last_packed, packed_unit, is_unit, no_unit};
-ghost use Rattle.states.specs.Packed.{unpacked_unit};
+ghost use Rattle.states.specs.Packed.{unpacked_unit, unit_in};
 
 use catalog::AnswerName;
 use fields::big_endian::number_at;
@@ -78,7 +78,7 @@ pub fn pack(state: UnitState) -> [u8; SIZE]
     ]
 }
 
-pub(crate) fn is_state(bytes: &[u8]) -> bool
+fn is_state(bytes: &[u8]) -> bool
     ensures { result ≡ is_unit bytes.now }
 {
     if bytes.len() != SIZE {
@@ -110,30 +110,29 @@ fn no_unit() -> UnitState
     }
 }
 
-// The state in bytes that are one.
-pub(crate) fn state_in(bytes: &[u8]) -> UnitState
-    requires { is_unit bytes.now ≡ true }
-    ensures { result ≡ unpacked_unit bytes.now }
+// The state in exactly 11 bytes; none where they are no state.
+pub(crate) fn state_in(bytes: &[u8]) -> Option<UnitState>
+    ensures { result ≡ unit_in bytes.now }
 {
+    if !is_state(bytes) {
+        return None;
+    }
     let name = AnswerName {
         trep: byte_at(bytes, 4),
         day: number_at(bytes, 5, 4),
     };
     let last = SubMessage(fields::big_endian::number_of_two(byte_at(bytes, 9), byte_at(bytes, 10)));
-    UnitState {
+    Some(UnitState {
         kind: byte_at(bytes, 0),
         rate: byte_at(bytes, 1),
         pending: byte_at(bytes, 2),
         phase: phase_from(byte_at(bytes, 3), name, last),
-    }
+    })
 }
 
-// The state in exactly 11 bytes, or an impossible one where they are no state.
+// The same, or an impossible one where they are no state: it is refused in its turn, behind what comes before 11.
 pub fn unpack(bytes: &[u8]) -> UnitState
     ensures { result ≡ unpacked_unit bytes.now }
 {
-    if !is_state(bytes) {
-        return no_unit();
-    }
-    state_in(bytes)
+    state_in(bytes).unwrap_or(no_unit())
 }

@@ -23,10 +23,10 @@ fn unit_value(what: UnitReading, unit: UnitState) -> usize
 pub fn read_unit(what: UnitReading, state: &[u8]) -> usize
     ensures { result ≡ unit_read what state.now }
 {
-    if !crate::pack_unit::is_state(state) {
-        return NO_STATE;
+    match crate::pack_unit::state_in(state) {
+        Some(unit) => unit_value(what, unit),
+        None => NO_STATE,
     }
-    unit_value(what, crate::pack_unit::state_in(state))
 }
 
 fn tool_value(what: ToolReading, tool: ToolState) -> usize
@@ -44,8 +44,8 @@ fn tool_value(what: ToolReading, tool: ToolState) -> usize
 pub fn read_tool(what: ToolReading, state: &[u8]) -> usize
     ensures { result ≡ tool_read what state.now }
 {
-    if !crate::pack_tool::is_state(state) {
-        return NO_STATE;
+    match crate::pack_tool::state_in(state) {
+        Some(tool) => tool_value(what, tool),
+        None => NO_STATE,
     }
-    tool_value(what, crate::pack_tool::state_in(state))
 }

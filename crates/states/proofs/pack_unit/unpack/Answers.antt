@@ -1,10 +1,8 @@
--- No state, or the state in the bytes.
-use Rattle.octets.proofs.Tests.{flag-nt, flag-nf}
-use Rattle.states.proofs.UnitLaws.{unit-none}
-use Rattle.std.proofs.Common.{rules}
+-- The state in the bytes, or the impossible one.
+use Rattle.states.specs.Packed.{unpacked_unit}
+use Rattle.states.proofs.ReaderLaws.{unpacked-or}
 use Rattle.states.proofs.pack_unit.unpack.Goals as goal
 
-ruleset all = (rules, flag-nt, flag-nf, unit-none)
-
-pub returns-then-not-is_state : goal.returns-then-not-is_state
-returns-then-not-is_state c = search all
+pub returns : goal.returns
+unfolding unpacked_unit
+returns c = unpacked-or _ _ _ _ _ _ c.state_in.ensures c.no_unit.ensures c.unwrap_or.ensures

@@ -1,13 +1,12 @@
--- No state, or the number of the state.
+-- The number of the state, or that of none.
 use Rattle.states.specs.Readers.{tool_value, tool_read}
-use Rattle.states.proofs.ReaderLaws.{no-state, state-read}
-use Rattle.std.proofs.Common.{rules}
+use Rattle.states.proofs.ReaderLaws.{read-some, read-none}
 use Rattle.states.proofs.readers.read_tool.Goals as goal
 
-pub returns-then-not-is_state : goal.returns-then-not-is_state
+pub returns-in-Some : goal.returns-in-Some
 unfolding tool_read
-returns-then-not-is_state c = search (rules, no-state)
+returns-in-Some c = read-some _ c.in-Some.tool _ (tool_value c.args.what) _ _ c.in-Some.ensures c.tool_value.ensures
 
-pub returns : goal.returns
+pub returns-in-None : goal.returns-in-None
 unfolding tool_read
-returns c = search (rules, state-read tool_value)
+returns-in-None c = read-none _ _ (tool_value c.args.what) _ c.in-None.ensures
