@@ -46,6 +46,14 @@ pub struct Place {
     pub len: usize,
 }
 
+// What a call on a state hands back: the next state, and the length of what was written at the front of the lent buffer,
+// 0 for nothing. Refused, the state stays.
+#[derive(Clone, Copy, Debug, PartialEq, Eq, Hash)]
+pub struct Step<S> {
+    pub state: S,
+    pub len: usize,
+}
+
 // A count, or a refusal and 0.
 #[repr(C)]
 #[derive(Clone, Copy, Debug, PartialEq, Eq, Hash)]

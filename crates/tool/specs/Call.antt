@@ -15,7 +15,7 @@ use Rattle.progress.specs.declared.ToolState.{ToolState}
 use Rattle.octets.specs.Numbers.{number}
 use Rattle.octets.specs.declared.refusal.Refusal.{Refusal}
 use Rattle.std.specs.Prelude.{Result, Ok, Err}
-use Rattle.tool.specs.declared.Step.{Step}
+use Rattle.octets.specs.declared.Step.{Step}
 use Rattle.arrival.specs.declared.Meaning.{Meaning}
 use Rattle.arrival.specs.declared.Meaning.TheVariants.{FailedWait}
 use Rattle.progress.specs.State.{is_transfer, is_waiting, possible}
@@ -30,7 +30,7 @@ pub record ToolStep : Type 0 where
   pub len : ℕ
 
 -- the same as the code has it, for the state handed in
-abbrev pub stepped : ToolState → Result Step Refusal → ToolStep
+abbrev pub stepped : ToolState → Result (Step ToolState) Refusal → ToolStep
 stepped t (Ok step) = record { number = done; state = step.state; len = step.len }
 stepped t (Err refusal) = record { number = number refusal; state = t; len = 0 }
 

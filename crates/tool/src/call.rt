@@ -9,10 +9,10 @@ ghost use Rattle.tool.specs.Call.{begin_result_given, begin_out_given};
 ghost use Rattle.tool.specs.Call.{arrival_result_given, arrival_room_given, arrival_out_given};
 ghost use Rattle.tool.specs.Call.{wait_result_given, wait_out_given};
 
-use crate::Step;
 use arrival::Meaning;
 use catalog::AnswerName;
 use frame::Addresses;
+use octets::Step;
 use octets::refusal::Refusal;
 use octets::wire::FRAME_MOST;
 use progress::{Outcome, Request, ToolState};
@@ -74,7 +74,7 @@ pub fn begin(
     request: Request,
     name: AnswerName,
     out: &mut [u8],
-) -> Result<Step, Refusal>
+) -> Result<Step<ToolState>, Refusal>
     ensures value { stepped state result ≡ begin_result_given addresses state request name (length out.old) }
     ensures out_after { out.new ≡ begin_out_given addresses state request name out.old }
 {
@@ -115,7 +115,7 @@ fn event_step(
     new: usize,
     room_len: usize,
     out: &mut [u8],
-) -> Result<Step, Refusal>
+) -> Result<Step<ToolState>, Refusal>
     requires request_value { takes meaning ≡ true → is_transfer state.request ≡ true }
     requires bound { takes meaning ≡ true → state.held + new ≤ held_most }
     ensures value { stepped state result ≡ event_result_given addresses state meaning new room_len (length out.old) }
@@ -138,7 +138,7 @@ pub fn arrival_step(
     frame: &[u8],
     room_len: usize,
     out: &mut [u8],
-) -> Result<Step, Refusal>
+) -> Result<Step<ToolState>, Refusal>
     ensures value { stepped state result ≡
         arrival_result_given addresses state frame.now room_len (length out.old) }
     ensures out_after { out.new ≡
@@ -156,7 +156,7 @@ pub fn arrived(
     frame: &[u8],
     room: &mut [u8],
     out: &mut [u8],
-) -> Result<Step, Refusal>
+) -> Result<Step<ToolState>, Refusal>
     ensures value { stepped state result ≡
         arrival_result_given addresses state frame.now
         (length room.old) (length out.old) }
@@ -181,7 +181,7 @@ pub fn wait_step(
     state: ToolState,
     room_len: usize,
     out: &mut [u8],
-) -> Result<Step, Refusal>
+) -> Result<Step<ToolState>, Refusal>
     ensures value { stepped state result ≡ wait_result_given addresses state room_len (length out.old) }
     ensures out_after { out.new ≡ wait_out_given addresses state room_len out.old }
 {
@@ -194,7 +194,7 @@ pub fn wait_ended(
     state: ToolState,
     room: &[u8],
     out: &mut [u8],
-) -> Result<Step, Refusal>
+) -> Result<Step<ToolState>, Refusal>
     ensures value { stepped state result ≡
         wait_result_given addresses state (length room.now) (length out.old) }
     ensures out_after { out.new ≡

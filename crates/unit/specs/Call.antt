@@ -25,7 +25,7 @@ use Rattle.services.specs.declared.Reaction.TheVariants.{TransferExited, Communi
 use Rattle.services.specs.State.{is_closed}
 use Rattle.services.specs.Services.{name_asked, on_data}
 use Rattle.services.specs.After.{state_after}
-use Rattle.unit.specs.declared.Step.{Step}
+use Rattle.octets.specs.declared.Step.{Step}
 use Rattle.unit.specs.State.{place_sent, possible}
 
 -- where the answer lies that a frame's data asks for
@@ -97,7 +97,7 @@ pub record UnitReply : Type 0 where
   pub len : ℕ
 
 -- the same as the code has it, for the state handed in
-abbrev pub stepped : UnitState → Result Step Refusal → UnitReply
+abbrev pub stepped : UnitState → Result (Step UnitState) Refusal → UnitReply
 stepped u (Ok step) = record { number = done; state = step.state; len = step.len }
 stepped u (Err refusal) = record { number = number refusal; state = u; len = 0 }
 

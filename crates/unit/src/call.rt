@@ -6,11 +6,10 @@ ghost use Rattle.frame.specs.declared.End.TheVariants as ends;
 ghost use Rattle.services.specs.State.{possible_at};
 ghost use Rattle.unit.specs.Call.{stepped, reaction_at, number_before, unit_result_given, unit_out_given};
 
-use crate::Step;
 use frame::{Addresses, End, WITHOUT_LEN};
-use octets::Part;
 use octets::refusal::Refusal;
 use octets::wire::FRAME_MOST;
+use octets::{Part, Step};
 use services::{Reaction, UnitState};
 
 // The refusals between the store's and the frame's own, in order. `sent` is the answer that is being sent, if it is
@@ -60,7 +59,7 @@ pub fn step(
     store: &[u8],
     frame: &[u8],
     reply: &mut [u8],
-) -> Result<Step, Refusal>
+) -> Result<Step<UnitState>, Refusal>
     ensures value { stepped state result ≡
         unit_result_given addresses store.now (length reply.old) state frame.now }
     ensures reply_after { reply.new ≡

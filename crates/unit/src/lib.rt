@@ -4,13 +4,3 @@
 
 pub mod call;
 mod reply;
-
-use services::UnitState;
-
-// What a call hands back: the next state and the reply's length, 0 for silence. Refused, the state stays and there is no
-// reply.
-#[derive(Clone, Copy, Debug, PartialEq, Eq, Hash)]
-pub struct Step {
-    pub state: UnitState,
-    pub len: usize,
-}
