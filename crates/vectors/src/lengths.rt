@@ -20,13 +20,13 @@ fn step(rt: &impl Print, data: &[u8], k: u16, room: &mut [u8], held: usize) -> i
     if k < 4 || field.len() < 255 {
         print!(rt; ", LEN {}", field.len())?;
     }
-    let Some(rest) = room.get_mut(held..) else {
+    let Some(place) = room
+        .get_mut(held..)
+        .and_then(|rest| rest.get_mut(..new.len()))
+    else {
         return Ok(held);
     };
-    if rest.len() < new.len() {
-        return Ok(held);
-    }
-    rest[..new.len()].copy_from_slice(new);
+    place.copy_from_slice(new);
     Ok(held + new.len())
 }
 
