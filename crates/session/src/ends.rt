@@ -1,107 +1,98 @@
 // Both ends, a frame and its reply at a time. Every second reply of 260 bytes is lost, and the wait for it ends.
-use crate::print;
-use catalog::AnswerName;
+use catalog::{AnswerName, GENERATION_2_VERSION_2};
 use frame::LAB;
-use octets::Place;
+use octets::refusal::Refusal;
+use octets::wire::FRAME_MOST;
+use octets::{Part, Step};
 use progress::{Outcome, Request, ToolState};
 use services::UnitState;
 use std::io;
 
-// Both states, the length of the frame that is out, and how often the unit was called.
-#[derive(Clone, Copy, Debug, PartialEq, Eq, Hash)]
-pub struct Session {
-    pub unit: UnitState,
-    pub tool: ToolState,
-    pub len: usize,
-    pub calls: usize,
+// Both states, the frame that is out, and whether the unit's next call is an even one, counted from 1.
+#[derive(Drop)]
+pub(crate) struct Session {
+    unit: UnitState,
+    tool: ToolState,
+    out: [u8; FRAME_MOST],
+    len: usize,
+    even: bool,
 }
 
-pub(crate) fn front(len: usize) -> Place {
-    Place {
-        number: 0,
-        start: 0,
-        len,
-    }
-}
-
-// The frame at the front of `out` is heard by the unit and its reply by the tool, whose next frame takes its place.
-fn exchange(
-    rt: &impl Print,
-    s: Session,
-    store: &[u8],
-    room: &mut [u8],
-    out: &mut [u8],
-) -> io::Result<Session> {
-    let mut reply = [0u8; 260];
-    let unit = s.unit;
-    let tool = s.tool;
-    let sent = octets::buffer::part(out, front(s.len));
-    let heard = unit::call::step(LAB, unit, store, sent, &mut reply);
-    let next = heard.state;
-    print::number(rt, b", out ", s.len)?;
-    print::number(rt, b", back ", heard.len)?;
-    let calls = s.calls % 1000 + 1;
-    if heard.len == 260 && calls % 2 == 0 {
-        print::text(rt, b" lost")?;
-        let waited = tool::call::wait_ended(LAB, tool, room, out);
-        let left = waited.state;
-        return Ok(Session {
-            unit: next,
-            tool: left,
-            len: waited.len,
-            calls,
-        });
-    }
-    let string = octets::buffer::part(&reply, front(heard.len));
-    let stepped = tool::call::arrived(LAB, tool, string, room, out);
-    let left = stepped.state;
-    Ok(Session {
-        unit: next,
-        tool: left,
-        len: stepped.len,
-        calls,
-    })
-}
-
-// The exchanges of one request, at most twenty, until it is done.
-fn exchanges(
-    rt: &impl Print,
-    s: Session,
-    store: &[u8],
-    room: &mut [u8],
-    out: &mut [u8],
-) -> io::Result<Session> {
-    let mut now = s;
-    for _ in 0..20 {
-        let tool = now.tool;
-        let outcome = tool.outcome;
-        if outcome == Outcome::Done {
-            return Ok(now);
+impl Session {
+    pub(crate) fn fresh() -> Session {
+        Session {
+            unit: services::state::fresh(GENERATION_2_VERSION_2),
+            tool: progress::state::fresh(),
+            out: [0; FRAME_MOST],
+            len: 0,
+            even: false,
         }
-        now = exchange(rt, now, store, room, out)?;
     }
-    Ok(now)
-}
 
-// One request, begun and carried to its end.
-pub(crate) fn run(
-    rt: &impl Print,
-    s: Session,
-    request: Request,
-    name: AnswerName,
-    store: &[u8],
-    room: &mut [u8],
-) -> io::Result<Session> {
-    let mut out = [0u8; 260];
-    let unit = s.unit;
-    let tool = s.tool;
-    let begun = tool::call::begin(LAB, tool, request, name, &mut out);
-    let waiting = begun.state;
-    let session = Session {
-        unit,
-        tool: waiting,
-        len: begun.len,
-        calls: s.calls,
-    };
-    exchanges(rt, session, store, room, &mut out)
+    pub(crate) fn is_done(&self) -> bool {
+        self.tool.outcome == Outcome::Done
+    }
+
+    // The bytes that the tool holds.
+    pub(crate) fn held(&self) -> usize {
+        self.tool.held as usize
+    }
+
+    // What a call of the tool hands back. Refused, its state stays and nothing is sent.
+    fn take(&mut self, given: Result<Step<ToolState>, Refusal>) {
+        let state = self.tool;
+        let Step { state, len } = given.unwrap_or(Step { state, len: 0 });
+        self.tool = state;
+        self.len = len;
+    }
+
+    // The unit hears the frame that is out, and gives the length of its reply. Refused, its state stays and there is
+    // none.
+    fn hear(&mut self, store: &[u8], reply: &mut [u8]) -> usize {
+        let state = self.unit;
+        let len = self.len;
+        let sent = Part { start: 0, len }.of(&self.out);
+        let given = unit::call::step(LAB, state, store, sent, reply);
+        let Step { state, len } = given.unwrap_or(Step { state, len: 0 });
+        self.unit = state;
+        len
+    }
+
+    // The frame that is out is heard by the unit and its reply by the tool, whose next frame takes its place.
+    fn exchange(&mut self, rt: &impl Print, store: &[u8], room: &mut [u8]) -> io::Result<()> {
+        let mut reply = [0; FRAME_MOST];
+        let sent = self.len;
+        let len = self.hear(store, &mut reply);
+        print!(rt; ", out {sent}, back {len}")?;
+        let given = if self.even && len == FRAME_MOST {
+            print!(rt; " lost")?;
+            tool::call::wait_ended(LAB, self.tool, room, &mut self.out)
+        } else {
+            let string = Part { start: 0, len }.of(&reply);
+            tool::call::arrived(LAB, self.tool, string, room, &mut self.out)
+        };
+        self.take(given);
+        self.even = !self.even;
+        Ok(())
+    }
+
+    // One request, begun and carried on until it is done, in at most twenty exchanges.
+    pub(crate) fn run(
+        &mut self,
+        rt: &impl Print,
+        request: Request,
+        name: AnswerName,
+        store: &[u8],
+        room: &mut [u8],
+    ) -> io::Result<()> {
+        let begun = tool::call::begin(LAB, self.tool, request, name, &mut self.out);
+        self.take(begun);
+        for _ in 0..20 {
+            if self.is_done() {
+                break;
+            }
+            self.exchange(rt, store, room)?;
+        }
+        Ok(())
+    }
 }

@@ -1,28 +1,20 @@
 // The store of the session: a short answer, a split one and one whose last sub message is empty.
-use octets::Place;
+use octets::Part;
+use octets::wire::ANSWER;
 
-fn counted() -> [u8; 1024] {
-    std::array::from_fn(|i| (i % 256) as u8)
-}
-
-// An answer with `len` data bytes.
+// An answer of `len` bytes, 76 and TREP included.
 fn put(store: &mut [u8], trep: u8, day: u32, len: usize) {
-    let mut answer = counted();
-    answer[0] = 0x76;
-    answer[1] = trep;
-    if 1022 < len {
-        return;
-    }
-    let place = Place {
-        number: 0,
-        start: 0,
-        len: len + 2,
-    };
-    append::append(store, octets::buffer::part(&answer, place), day);
+    let bytes: [u8; 1024] = std::array::from_fn(|i| match i {
+        0 => ANSWER,
+        1 => trep,
+        _ => (i % 256) as u8,
+    });
+    let answer = Part { start: 0, len }.of(&bytes);
+    let _ = append::append(store, answer, day); // what the tool holds in the end is compared with the store
 }
 
 pub(crate) fn fill(store: &mut [u8]) {
-    put(store, 0x00, 0, 2);
-    put(store, 0x31, 0, 900);
-    put(store, 0x32, 86400, 502);
+    put(store, 0x00, 0, 4);
+    put(store, 0x31, 0, 902);
+    put(store, 0x32, 86400, 504);
 }

@@ -1,7 +1,10 @@
 // Addresses (document 02, Req 05): the examples of its reading, at EE and FB, at 00 and 01, and at two equal ones.
-use crate::print;
-use catalog::AnswerName;
+use crate::hex::Hex;
+use crate::{compared, number};
+use catalog::{AnswerName, GENERATION_1};
 use frame::{Addresses, End, LAB};
+use octets::wire::FRAME_MOST;
+use octets::{Part, Step};
 use progress::Request;
 use split::AckCode;
 use std::io;
@@ -22,60 +25,56 @@ const EQUAL: Addresses = Addresses {
 };
 
 // An empty store: no answers and no stream bytes.
-const EMPTY: [u8; 4] = *b"\x00\x00\x00\x00";
+const EMPTY: [u8; 4] = [0; 4];
 
-fn start(rt: &impl Print, what: &[u8], addresses: Addresses) -> io::Result<()> {
-    let mut out = [0u8; 5];
-    let written = frame::write::write_start(addresses, &mut out);
-    print::text(rt, what)?;
-    print::bytes(rt, octets::buffer::part(&out, crate::front(written.len)))?;
-    print::text(rt, b"\n")
+fn start_frame(addresses: Addresses) -> [u8; 5] {
+    let mut out = [0; 5];
+    let _ = frame::write::write_start(addresses, &mut out); // five bytes are room enough
+    out
+}
+
+fn start(rt: &impl Print, addresses: Addresses) -> io::Result<()> {
+    let both = [addresses.unit, addresses.tool];
+    println!(rt; "start at{}:{}", Hex(&both), Hex(&start_frame(addresses)))
 }
 
 // The start at the lab's addresses is the fixed string.
 fn fixed(rt: &impl Print) -> io::Result<()> {
-    let mut out = [0u8; 5];
-    frame::write::write_start(LAB, &mut out);
-    print::text(rt, b"start at EE F0:")?;
-    print::bytes(rt, &out)?;
-    print::same(rt, &out, &frame::messages::lab_start())
+    let out = start_frame(LAB);
+    let same = compared(&out, &frame::messages::lab_start());
+    println!(rt; "start at EE F0:{}, {same}", Hex(&out))
 }
 
-// A frame at a closed unit of EE and FB.
-fn heard(rt: &impl Print, what: &[u8], frame: &[u8]) -> io::Result<()> {
-    let mut reply = [0u8; 260];
-    let step = unit::call::step(REMOTE, services::state::fresh(0), &EMPTY, frame, &mut reply);
-    let state = step.state;
-    print::number(rt, what, octets::byte::usize_of(step.number))?;
-    print::text(rt, b", reply")?;
-    print::bytes(rt, octets::buffer::part(&reply, crate::front(step.len)))?;
-    print::text(rt, b", state")?;
-    print::bytes(rt, &states::pack_unit::pack(state))?;
-    print::text(rt, b"\n")
+// A frame at a closed unit of EE and FB. Refused, the state stays and there is no reply.
+fn heard(rt: &impl Print, what: &str, frame: &[u8]) -> io::Result<()> {
+    let state = services::state::fresh(GENERATION_1);
+    let mut reply = [0; FRAME_MOST];
+    let given = unit::call::step(REMOTE, state, &EMPTY, frame, &mut reply);
+    let number = number(&given);
+    let Step { state, len } = given.unwrap_or(Step { state, len: 0 });
+    let state = states::pack_unit::pack(state);
+    println!(rt;
+        "unit at EE FB, {what}: number {number}, reply{}, state{}",
+        Hex(Part { start: 0, len }.of(&reply)),
+        Hex(&state)
+    )
 }
 
 fn code(rt: &impl Print) -> io::Result<()> {
-    let mut out = [0u8; 260];
-    let written = requests::sent::write_acknowledgement(REMOTE, AckCode(2), &mut out);
-    let frame = octets::buffer::part(&out, crate::front(written.len));
-    print::text(rt, b"code 2 from EE FB:")?;
-    print::bytes(rt, frame)?;
-    print::number(
-        rt,
-        b": at EE FB ",
-        octets::byte::usize_of(frame::call::check(REMOTE, frame, End::Unit)),
-    )?;
-    print::number(
-        rt,
-        b", at EE F0 ",
-        octets::byte::usize_of(frame::call::check(LAB, frame, End::Unit)),
-    )?;
-    print::text(rt, b"\n")
+    let mut out = [0; FRAME_MOST];
+    let len = requests::sent::write_acknowledgement(REMOTE, AckCode(2), &mut out).unwrap_or(0);
+    let frame = Part { start: 0, len }.of(&out);
+    println!(rt;
+        "code 2 from EE FB:{}: at EE FB {}, at EE F0 {}",
+        Hex(frame),
+        number(&frame::call::check(REMOTE, frame, End::Unit)),
+        number(&frame::call::check(LAB, frame, End::Unit))
+    )
 }
 
 // At two equal addresses these calls are 2: a broken store, a short reply buffer, no data, a name not in the table.
 fn equal(rt: &impl Print) -> io::Result<()> {
-    let mut short = [0u8; 3];
+    let mut short = [0; 3];
     let name = AnswerName { trep: 0x99, day: 0 };
     let step = unit::call::step(EQUAL, services::state::fresh(9), b"", b"", &mut short);
     let written = frame::call::write(EQUAL, b"", End::Tool, &mut short);
@@ -86,34 +85,20 @@ fn equal(rt: &impl Print) -> io::Result<()> {
         name,
         &mut short,
     );
-    print::number(
-        rt,
-        b"at 55 55: unit step ",
-        octets::byte::usize_of(step.number),
-    )?;
-    print::number(
-        rt,
-        b", frame write ",
-        octets::byte::usize_of(written.number),
-    )?;
-    print::number(rt, b", begin ", octets::byte::usize_of(begun.number))?;
-    print::text(rt, b"\n")
+    println!(rt;
+        "at 55 55: unit step {}, frame write {}, begin {}",
+        number(&step),
+        number(&written),
+        number(&begun)
+    )
 }
 
 pub(crate) fn addresses(rt: &impl Print) -> io::Result<()> {
     fixed(rt)?;
-    start(rt, b"start at EE FB:", REMOTE)?;
-    start(rt, b"start at 00 01:", ZERO_ONE)?;
-    heard(
-        rt,
-        b"unit at EE FB, its start: number ",
-        b"\x81\xee\xfb\x81\xeb",
-    )?;
-    heard(
-        rt,
-        b"unit at EE FB, the lab's start: number ",
-        b"\x81\xee\xf0\x81\xe0",
-    )?;
+    start(rt, REMOTE)?;
+    start(rt, ZERO_ONE)?;
+    heard(rt, "its start", b"\x81\xee\xfb\x81\xeb")?;
+    heard(rt, "the lab's start", b"\x81\xee\xf0\x81\xe0")?;
     code(rt)?;
     equal(rt)
 }

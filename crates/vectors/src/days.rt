@@ -1,10 +1,14 @@
 // Days (document 02, Req 03): seconds at the ends of days, and the examples of its reading.
-use crate::print;
-use catalog::AnswerName;
+use crate::hex::{Few, Hex};
+use crate::number;
+use catalog::{AnswerName, GENERATION_1};
 use frame::LAB;
+use octets::wire::{ANSWER, FRAME_MOST};
+use octets::{Part, Place, Step};
 use progress::Request;
 use services::{Phase, UnitState};
 use std::io;
+use store::Fault;
 
 const SECONDS: [u32; 10] = [
     0, 86399, 86400, 86401, 129600, 172799, 172800, 0xFFFFA4FF, 0xFFFFA500, 0xFFFFFFFF,
@@ -16,128 +20,92 @@ const REQUEST: [u8; 11] = *b"\x80\xee\xf0\x06\x36\x02\x00\x01\x51\x81\x6f";
 // The answer 76 02 AA under the second 86,401, which no entry has.
 const BROKEN: [u8; 15] = *b"\x00\x01\x00\x03\x00\x01\x51\x81\x00\x00\x00\x03\x76\x02\xaa";
 
-// The day of a second, and the second under which a store keeps it.
-fn second(rt: &impl Print, n: u32) -> io::Result<()> {
-    print::number(rt, b"second ", n as usize)?;
-    let first = catalog::first_second(n);
-    print::number(rt, b": day ", (first / 86400) as usize)?;
-    print::number(rt, b", kept under ", first as usize)?;
-    print::text(rt, b"\n")
-}
-
+// The day of each second, and the second under which a store keeps it.
 fn seconds(rt: &impl Print) -> io::Result<()> {
     for n in SECONDS {
-        second(rt, n)?;
-    }
-    Ok(())
-}
-
-// The bytes, where there are some and not many.
-fn shown(rt: &impl Print, bytes: &[u8]) -> io::Result<()> {
-    if 0 < bytes.len() && bytes.len() < 260 {
-        print::text(rt, b":")?;
-        print::bytes(rt, bytes)?;
+        let first = catalog::first_second(n);
+        println!(rt; "second {n}: day {}, kept under {first}", first / 86400)?;
     }
     Ok(())
 }
 
 fn appended(rt: &impl Print, store: &mut [u8], answer: &[u8], day: u32) -> io::Result<()> {
-    let written = append::append(store, answer, day);
-    print::number(rt, b"append by ", day as usize)?;
-    print::number(rt, b": number ", octets::byte::usize_of(written.number))?;
-    print::number(rt, b", length ", written.len)?;
-    shown(rt, octets::buffer::part(store, crate::front(written.len)))?;
-    print::text(rt, b"\n")
+    let given = append::append(store, answer, day);
+    let len = given.unwrap_or(0);
+    println!(rt;
+        "append by {day}: number {}, length {len}{}",
+        number(&given),
+        Few(Part { start: 0, len }.of(store))
+    )
 }
 
 fn found(rt: &impl Print, store: &[u8], day: u32) -> io::Result<()> {
-    let place = store::read::locate(store, AnswerName { trep: 0x02, day });
-    print::number(rt, b"lookup by ", day as usize)?;
-    print::number(rt, b": number ", octets::byte::usize_of(place.number))?;
-    print::number(rt, b", start ", place.start)?;
-    print::number(rt, b", length ", place.len)?;
-    print::text(rt, b"\n")
-}
-
-fn in_phase(phase: Phase) -> UnitState {
-    UnitState {
-        kind: catalog::GENERATION_1,
-        rate: 1,
-        pending: 0,
-        phase,
-    }
+    let name = AnswerName { trep: 0x02, day };
+    let Place { number, start, len } = store::read::locate(store, name).into();
+    println!(rt; "lookup by {day}: number {number}, start {start}, length {len}")
 }
 
 // The reply, all its bytes where they are few, and the state that the host keeps.
-fn asked(rt: &impl Print, what: &[u8], store: &[u8], phase: Phase) -> io::Result<()> {
-    let mut reply = [0u8; 260];
-    let heard = unit::call::step(LAB, in_phase(phase), store, &REQUEST, &mut reply);
-    let state = heard.state;
-    print::number(rt, what, heard.len)?;
-    print::text(rt, b" bytes")?;
-    shown(rt, octets::buffer::part(&reply, crate::front(heard.len)))?;
-    print::text(rt, b", state")?;
-    print::bytes(rt, &states::pack_unit::pack(state))?;
-    print::text(rt, b"\n")
+fn asked(rt: &impl Print, what: &str, store: &[u8], phase: Phase) -> io::Result<()> {
+    let state = UnitState {
+        kind: GENERATION_1,
+        rate: 1,
+        pending: 0,
+        phase,
+    };
+    let mut reply = [0; FRAME_MOST];
+    let given = unit::call::step(LAB, state, store, &REQUEST, &mut reply);
+    let Step { state, len } = given.unwrap_or(Step { state, len: 0 });
+    let state = states::pack_unit::pack(state);
+    println!(rt;
+        "unit {what} sends {len} bytes{}, state{}",
+        Few(Part { start: 0, len }.of(&reply)),
+        Hex(&state)
+    )
 }
 
 fn begun(rt: &impl Print) -> io::Result<()> {
-    let mut out = [0u8; 260];
+    let state = progress::state::fresh();
     let name = AnswerName {
         trep: 0x02,
         day: 86401,
     };
-    let step = tool::call::begin(
-        LAB,
-        progress::state::fresh(),
-        Request::Transfer,
-        name,
-        &mut out,
-    );
-    let state = step.state;
-    print::text(rt, b"tool begins by 86401:")?;
-    print::bytes(rt, octets::buffer::part(&out, crate::front(step.len)))?;
-    print::text(rt, b", state")?;
-    print::bytes(rt, &states::pack_tool::pack(state))?;
-    print::text(rt, b"\n")
-}
-
-fn short(rt: &impl Print, store: &mut [u8]) -> io::Result<()> {
-    appended(rt, store, b"\x76\x02\xaa", 86401)?;
-    found(rt, store, 172799)?;
-    found(rt, store, 86399)?;
-    appended(rt, store, b"\x76\x02", 86400)?;
-    asked(rt, b"unit granted sends ", store, Phase::Granted)?;
-    asked(rt, b"unit in session sends ", store, Phase::Session)
-}
-
-// An answer of 253 data bytes, which is split.
-fn split(rt: &impl Print, store: &mut [u8]) -> io::Result<()> {
-    let mut answer = [0u8; 255];
-    answer[0] = 0x76;
-    answer[1] = 0x02;
-    append::append(store, &answer, 86401);
-    asked(
-        rt,
-        b"unit with 253 data bytes sends ",
-        store,
-        Phase::Granted,
+    let mut out = [0; FRAME_MOST];
+    let given = tool::call::begin(LAB, state, Request::Transfer, name, &mut out);
+    let Step { state, len } = given.unwrap_or(Step { state, len: 0 });
+    let state = states::pack_tool::pack(state);
+    println!(rt;
+        "tool begins by 86401:{}, state{}",
+        Hex(Part { start: 0, len }.of(&out)),
+        Hex(&state)
     )
 }
 
+fn short(rt: &impl Print) -> io::Result<()> {
+    let mut store = [0; 20];
+    appended(rt, &mut store, b"\x76\x02\xaa", 86401)?;
+    found(rt, &store, 172799)?;
+    found(rt, &store, 86399)?;
+    appended(rt, &mut store, b"\x76\x02", 86400)?;
+    asked(rt, "granted", &store, Phase::Granted)?;
+    asked(rt, "in session", &store, Phase::Session)
+}
+
+// An answer of 253 data bytes, which is split.
+fn split(rt: &impl Print) -> io::Result<()> {
+    let mut store = [0; 300];
+    let mut answer = [0; 255];
+    answer[0] = ANSWER;
+    answer[1] = 0x02;
+    let _ = append::append(&mut store, &answer, 86401); // the reply shows what became of it
+    asked(rt, "with 253 data bytes", &store, Phase::Granted)
+}
+
 pub(crate) fn days(rt: &impl Print) -> io::Result<()> {
-    let mut store = [0u8; 20];
-    let mut longer = [0u8; 300];
     seconds(rt)?;
-    short(rt, &mut store)?;
-    split(rt, &mut longer)?;
+    short(rt)?;
+    split(rt)?;
     begun(rt)?;
-    let fault = store::check::fault(&BROKEN);
-    print::number(
-        rt,
-        b"entry of 86401: number ",
-        octets::byte::usize_of(fault.number),
-    )?;
-    print::number(rt, b", position ", fault.position)?;
-    print::text(rt, b"\n")
+    let Fault { number, position } = store::check::fault(&BROKEN).into();
+    println!(rt; "entry of 86401: number {number}, position {position}")
 }

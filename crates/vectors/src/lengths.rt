@@ -1,39 +1,39 @@
 // The lengths of W7 to W10 and of the longest answer: sub messages written, read and joined again.
-use crate::print;
+use crate::{compared, number};
 use frame::{End, LAB};
+use octets::Part;
+use octets::wire::FRAME_MOST;
 use split::SubMessage;
 use std::io;
 
 const LENGTHS: [usize; 6] = [252, 253, 501, 502, 59998, 59999];
 
+const TREP: u8 = 0x31;
+
 // Sub message k of `data`, as the tool reads it, put behind the bytes that `room` holds; how many it holds then.
 fn step(rt: &impl Print, data: &[u8], k: u16, room: &mut [u8], held: usize) -> io::Result<usize> {
-    let mut out = [0u8; 260];
-    let written = split::call::write_sub_message(LAB, data, 0x31, SubMessage(k), &mut out);
-    let field = frame::call::data_of(
-        LAB,
-        octets::buffer::part(&out, crate::front(written.len)),
-        End::Tool,
-    );
-    let new = split::join::carried(field, split::join::receive(field, 0x31, SubMessage(k)));
+    let message = SubMessage(k);
+    let mut out = [0; FRAME_MOST];
+    let len = split::call::write_sub_message(LAB, data, TREP, message, &mut out).unwrap_or(0);
+    let field = frame::call::data_of(LAB, Part { start: 0, len }.of(&out), End::Tool);
+    let new = split::join::carried(field, split::join::receive(field, TREP, message));
     if k < 4 || field.len() < 255 {
-        print::number(rt, b", LEN ", field.len())?;
+        print!(rt; ", LEN {}", field.len())?;
     }
-    if room.len() < held {
+    let Some(place) = room
+        .get_mut(held..)
+        .and_then(|rest| rest.get_mut(..new.len()))
+    else {
         return Ok(held);
-    }
-    if room.len() - held < new.len() {
-        return Ok(held);
-    }
-    let end = held + new.len();
-    octets::buffer::copy_in(&mut room[held..], new);
-    Ok(end)
+    };
+    place.copy_from_slice(new);
+    Ok(held + new.len())
 }
 
 fn joined(rt: &impl Print, data: &[u8], room: &mut [u8], count: usize) -> io::Result<usize> {
     let mut held = 0;
-    for k in 1..=count {
-        held = step(rt, data, (k % 65536) as u16, room, held)?;
+    for k in (1..=u16::MAX).take(count) {
+        held = step(rt, data, k, room, held)?;
     }
     Ok(held)
 }
@@ -41,31 +41,22 @@ fn joined(rt: &impl Print, data: &[u8], room: &mut [u8], count: usize) -> io::Re
 // An answer with these data bytes.
 fn answer(rt: &impl Print, data: &[u8], room: &mut [u8]) -> io::Result<()> {
     let counted = split::pieces::sub_messages(data.len());
-    print::number(rt, b"", data.len())?;
-    print::number(
-        rt,
-        b" data bytes: number ",
-        octets::byte::usize_of(counted.number),
+    let count = counted.unwrap_or(0);
+    print!(rt;
+        "{} data bytes: number {}, sub messages {count}",
+        data.len(),
+        number(&counted)
     )?;
-    print::number(rt, b", sub messages ", counted.count)?;
-    let held = joined(rt, data, room, counted.count)?;
-    print::number(rt, b", joined ", held)?;
-    print::same(rt, octets::buffer::part(room, crate::front(held)), data)
-}
-
-fn filled() -> [u8; 60000] {
-    std::array::from_fn(|i| (i % 251) as u8)
+    let len = joined(rt, data, room, count)?;
+    let all = Part { start: 0, len }.of(room);
+    println!(rt; ", joined {len}, {}", compared(all, data))
 }
 
 pub(crate) fn lengths(rt: &impl Print) -> io::Result<()> {
-    let data = filled();
-    let mut room = [0u8; 60000];
+    let data: [u8; 60000] = std::array::from_fn(|i| (i % 251) as u8);
+    let mut room = [0; 60000];
     for len in LENGTHS {
-        answer(
-            rt,
-            octets::buffer::part(&data, crate::front(len)),
-            &mut room,
-        )?;
+        answer(rt, Part { start: 0, len }.of(&data), &mut room)?;
     }
     Ok(())
 }

@@ -4,20 +4,23 @@
 
 mod addresses;
 mod days;
+mod hex;
 mod lengths;
-mod print;
 mod table;
 
-use octets::Place;
+use octets::refusal::Refusal;
 use std::io;
 
-// The first bytes of a slice, so many.
-fn front(len: usize) -> Place {
-    Place {
-        number: 0,
-        start: 0,
-        len,
+// The number of a call: 0 where it is done.
+fn number<T>(given: &Result<T, Refusal>) -> u8 {
+    match given {
+        Ok(_) => 0,
+        Err(refusal) => u8::from(*refusal),
     }
+}
+
+fn compared(a: &[u8], b: &[u8]) -> &'static str {
+    if a == b { "the same" } else { "not the same" }
 }
 
 fn main(rt: HostRuntime) -> io::Result<()> {
