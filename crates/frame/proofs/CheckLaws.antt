@@ -5,12 +5,11 @@ use mathlib.Core.List.{List}
 use mathlib.Core.Path.{◌≡◌, refl, sym, ap, ◌∙◌}
 use native.Mathlib.Omega.{arith}
 use lib.Dec.{leb, ltb, eqb}
-use lib.ListN.{length, get_or, take, drop}
+use lib.ListN.{length, get_or, take}
 use borrow.Author.Tests.{lt-ltb, le-ltb, eq-eqb, ne_eqb, leb-true, eqb-true}
 use Rattle.octets.proofs.CallLaws.{part_of}
 use Rattle.octets.proofs.OrderLaws.{unless-is, unless-most}
 use Rattle.octets.proofs.Tests.{and-f, and-false, and_right, flag-nt, flag-nf, eq-given, ne-given}
-use Rattle.octets.proofs.BufferLaws.{part-whole}
 use Rattle.octets.proofs.CallLaws.{place-refused}
 use Rattle.octets.specs.Numbers.{place_by, refused_place}
 use Rattle.octets.specs.Buffer.{part_at}

@@ -35,65 +35,85 @@ fn known_format(first: u8) -> bool
     (first == GENERAL) | (first == WITHOUT_LEN)
 }
 
-fn count_right(frame: &[u8]) -> bool
-    requires { 5 ≤ length frame.now }
-    ensures { result ≡ count_right frame.now }
-{
-    let len = frame[3];
-    if frame[0] == WITHOUT_LEN {
-        return frame.len() == 5;
-    }
-    if len == 0 {
-        return false;
-    }
-    frame.len() == usize::from(len) + 5
+// A frame that is long enough for every field but the data: the five bytes of the start have no LEN, but the SID there.
+#[derive(Clone, Copy)]
+struct Fields<'a> {
+    frame: &'a [u8],
+    ghost five: { 5 ≤ length frame.now },
 }
 
-fn start_right(frame: &[u8], end: End) -> bool
-    requires { 5 ≤ length frame.now }
-    ensures { result ≡ start_right «end» frame.now }
-{
-    match end {
-        End::Unit => frame[3] == START_COMMUNICATION,
-        End::Tool => false,
+impl<'a> Fields<'a> {
+    fn count_right(self) -> bool
+        ensures { result ≡ count_right self.entry.frame.now }
+    {
+        let frame = self.frame;
+        let len = frame[3];
+        if frame[0] == WITHOUT_LEN {
+            return frame.len() == 5;
+        }
+        if len == 0 {
+            return false;
+        }
+        frame.len() == usize::from(len) + 5
     }
-}
 
-// The form without LEN is right for the start alone, at the unit; the general form always is.
-fn form_right(frame: &[u8], end: End) -> bool
-    requires { 5 ≤ length frame.now }
-    ensures { result ≡ form_right «end» frame.now }
-{
-    if frame[0] != WITHOUT_LEN {
-        return true;
+    fn start_right(self, end: End) -> bool
+        ensures { result ≡ start_right «end» self.entry.frame.now }
+    {
+        match end {
+            End::Unit => self.frame[3] == START_COMMUNICATION,
+            End::Tool => false,
+        }
     }
-    start_right(frame, end)
-}
 
-// The form comes first: the count has just asked for it, so that the compiler joins the two tests.
-fn addressed_to(addresses: Addresses, frame: &[u8], end: End) -> bool
-    requires { 5 ≤ length frame.now }
-    ensures { result ≡ addressed addresses «end» frame.now }
-{
-    let target = target_of(addresses, end);
-    let source = source_of(addresses, end);
-    let to = frame[1];
-    let from = frame[2];
-    if !form_right(frame, end) {
-        return false;
+    // The form without LEN is right for the start alone, at the unit; the general form always is.
+    fn form_right(self, end: End) -> bool
+        ensures { result ≡ form_right «end» self.entry.frame.now }
+    {
+        if self.frame[0] != WITHOUT_LEN {
+            return true;
+        }
+        self.start_right(end)
     }
-    if to != target {
-        return false; // it goes elsewhere
-    }
-    from == source
-}
 
-fn checksum_right(frame: &[u8]) -> bool
-    requires { 5 ≤ length frame.now }
-    ensures { result ≡ checksum_right frame.now }
-{
-    let last = frame.len() - 1;
-    octets::sum::checksum(&frame[..last]) == frame[last]
+    // The form comes first: the count has just asked for it, so that the compiler joins the two tests.
+    fn addressed_to(self, addresses: Addresses, end: End) -> bool
+        ensures { result ≡ addressed addresses «end» self.entry.frame.now }
+    {
+        let target = target_of(addresses, end);
+        let source = source_of(addresses, end);
+        let to = self.frame[1];
+        let from = self.frame[2];
+        if !self.form_right(end) {
+            return false;
+        }
+        if to != target {
+            return false; // it goes elsewhere
+        }
+        from == source
+    }
+
+    fn checksum_right(self) -> bool
+        ensures { result ≡ checksum_right self.entry.frame.now }
+    {
+        let frame = self.frame;
+        let last = frame.len() - 1;
+        octets::sum::checksum(&frame[..last]) == frame[last]
+    }
+
+    // Where the data of a good frame lies: behind the header, or the SID of the five-byte start.
+    fn data_in(self) -> Part
+        ensures { result
+            ≡ record { start = data_start self.entry.frame.now; len = data_length self.entry.frame.now } }
+    {
+        if self.frame[0] == WITHOUT_LEN {
+            return Part { start: 3, len: 1 };
+        }
+        Part {
+            start: 4,
+            len: usize::from(self.frame[3]),
+        }
+    }
 }
 
 // Judges a frame that arrives at `end`: refused by 1, 2 or 3.
@@ -106,30 +126,17 @@ pub(crate) fn judge(addresses: Addresses, frame: &[u8], end: End) -> Result<(), 
     if !known_format(frame[0]) {
         return Err(Refusal::FormatOrAddress);
     }
-    if !count_right(frame) {
+    let fields = Fields { frame };
+    if !fields.count_right() {
         return Err(Refusal::FrameCount);
     }
-    if !addressed_to(addresses, frame, end) {
+    if !fields.addressed_to(addresses, end) {
         return Err(Refusal::FormatOrAddress);
     }
-    if !checksum_right(frame) {
+    if !fields.checksum_right() {
         return Err(Refusal::ChecksumWrong);
     }
     Ok(())
-}
-
-// Where the data of a good frame lies: behind the header, or the SID of the five-byte start.
-fn data_in(frame: &[u8]) -> Part
-    requires { 5 ≤ length frame.now }
-    ensures { result ≡ record { start = data_start frame.now; len = data_length frame.now } }
-{
-    if frame[0] == WITHOUT_LEN {
-        return Part { start: 3, len: 1 };
-    }
-    Part {
-        start: 4,
-        len: usize::from(frame[3]),
-    }
 }
 
 // Where the data of a good frame lies.
@@ -137,5 +144,5 @@ pub fn locate(addresses: Addresses, frame: &[u8], end: End) -> Result<Part, Refu
     ensures { placed result ≡ data_place addresses «end» frame.now }
 {
     judge(addresses, frame, end)?;
-    Ok(data_in(frame))
+    Ok(Fields { frame }.data_in())
 }

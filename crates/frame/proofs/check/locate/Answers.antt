@@ -8,8 +8,8 @@ ruleset all = (rules, good-five, place_none, place-good)
 pub returns-in_err-judge : goal.returns-in_err-judge
 returns-in_err-judge c = search all
 
-pub data_in-requires : goal.data_in-requires
-data_in-requires c = search all
+pub invariant_of-data_in : goal.invariant_of-data_in
+invariant_of-data_in c = record { five = search all }
 
 pub returns : goal.returns
 returns c = search all

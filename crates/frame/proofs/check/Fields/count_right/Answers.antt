@@ -1,7 +1,7 @@
 -- The form decides which count is right.
 use Rattle.frame.proofs.CheckLaws.{count-without, count-zero, count-by-len}
 use Rattle.std.proofs.Common.{rules}
-use Rattle.frame.proofs.check.count_right.Goals as goal
+use Rattle.frame.proofs.check.Fields.count_right.Goals as goal
 
 ruleset all = (rules, count-without, count-zero, count-by-len)
 

@@ -1,7 +1,7 @@
 -- One return for each end.
 use Rattle.frame.proofs.CheckLaws.{start-at-unit, start-at-tool}
 use Rattle.std.proofs.Common.{rules}
-use Rattle.frame.proofs.check.start_right.Goals as goal
+use Rattle.frame.proofs.check.Fields.start_right.Goals as goal
 
 ruleset all = (rules, start-at-unit, start-at-tool)
 

@@ -1,7 +1,7 @@
 -- Form, target and source decide in this order.
 use Rattle.frame.proofs.CheckLaws.{address-form, address-target, address-source}
 use Rattle.std.proofs.Common.{rules}
-use Rattle.frame.proofs.check.addressed_to.Goals as goal
+use Rattle.frame.proofs.check.Fields.addressed_to.Goals as goal
 
 ruleset all = (rules, address-form, address-target, address-source)
 
