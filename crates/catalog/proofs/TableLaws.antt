@@ -5,11 +5,16 @@ use mathlib.Core.List.{List, [], ◌∷◌}
 use Prim.Native.Nat.{ℕ, zero, suc, ◌+◌, ◌*◌, ◌/◌, ◌%◌, ◌<◌, ◌≤◌}
 use native.Mathlib.Omega.{arith}
 use native.Mathlib.Decide.{dec_lt}
-use lib.Dec.{eqb}
+use lib.Dec.{eqb, ltb}
 use lib.ListN.{length, get_or, get_or-eq_default}
-use borrow.Author.Tests.{lt-ltb, eq-eqb, ne_eqb, eqb-true}
+use borrow.Author.Tests.{lt-ltb, le-ltb, eq-eqb, ne_eqb, eqb-true}
 use Rattle.octets.specs.Search.{first_of, any_of}
 use Rattle.octets.proofs.SearchLaws.{first-least, first-none, any_none, any-more}
+use Rattle.catalog.specs.Kinds.{kind_number, Kinds}
+use Rattle.catalog.specs.declared.kind.UnknownKind.{UnknownKind}
+use Rattle.std.specs.Prelude.{Result, Ok, Err, is_ok}
+use Rattle.catalog.specs.declared.kind.Kind.{Kind}
+use Rattle.catalog.specs.declared.kind.Kind.TheVariants as kinds
 use Rattle.catalog.specs.Table.{absent, rows, trtp_of, known_to, listed, in_row, is_activities}
 use Rattle.catalog.proofs.Entries.{at_entry}
 
@@ -27,6 +32,20 @@ entry row kind r k =
     let q : i / 3 ≡ row = omega arith in
     let m : i % 3 ≡ kind = omega arith in
     rw (q, m) at (eqb-true (get_or table i 0) (trtp_of (i / 3) (i % 3)) (at_entry entry-right table refl i (omega arith)))
+
+-- the column of a kind
+pub column-below : (column : ℕ) (kind : Kind) → column ≡ kind_number kind → column < 3
+column-below column kinds.Generation1 e = omega arith
+column-below column kinds.Generation2Version1 e = omega arith
+column-below column kinds.Generation2Version2 e = omega arith
+
+-- whether a number is that of a kind
+pub is-kind : (n : ℕ) (r : Result Kind UnknownKind) → Kinds n r → is_ok r ≡ ltb n 3
+is-kind n (Ok kind) e = sym (lt-ltb n 3 (column-below n kind (sym e)))
+is-kind n (Err unknown) e = sym (le-ltb n 3 (omega (arith, e.1)))
+
+pub column-entry : (row column : ℕ) (kind : Kind) → row < 6 → column ≡ kind_number kind → get_or table (row * 3 + column) 0 ≡ trtp_of row (kind_number kind)
+column-entry row column kind r e = rw (← e) (entry row column r (column-below column kind e))
 
 -- no row is longer than three
 three : (row : ℕ) → length (get_or rows row []) ≤ 3

@@ -1,21 +1,16 @@
 // Transfer types by kind of unit (document 01, Transfer types; DDP_011), and the names of answers.
 #![tactic(auto)]
 
+pub mod kind;
+
 ghost use Rattle.std.specs.Prelude.{◌&&◌, ◌≡◌};
 ghost use Rattle.octets.specs.Numbers.{judgement};
+ghost use Rattle.catalog.specs.Kinds.{kind_number};
 ghost use Rattle.catalog.specs.Table.{trtp_of, known_to, listed, in_row, is_activities};
 ghost use Rattle.catalog.specs.Name.{first_second, day_named, name_number, day_stored, rounded, same_answer};
 
+use kind::Kind;
 use octets::refusal::Refusal;
-
-// The kinds of unit.
-pub const GENERATION_1: u8 = 0;
-
-pub const GENERATION_2_VERSION_1: u8 = 1;
-
-pub const GENERATION_2_VERSION_2: u8 = 2;
-
-pub const KINDS: u8 = 3;
 
 // The rows of the table, and the one of activities.
 const TRANSFER_TYPES: u8 = 6;
@@ -52,17 +47,25 @@ pub struct AnswerName {
 pub const NO_ANSWER: AnswerName = AnswerName { trep: 0xFF, day: 0 };
 
 // The TRTP of the transfer type in this row at a kind, FF where there is none.
-pub fn trtp(row: u8, kind: u8) -> u8
-    ensures { result ≡ trtp_of row kind }
+fn entry(row: u8, kind: Kind) -> u8
+    ensures { result ≡ trtp_of row (kind_number kind) }
 {
-    if kind >= KINDS {
-        return ABSENT;
-    }
     if row >= TRANSFER_TYPES {
         return ABSENT;
     }
-    let i = (row as usize) * 3 + (kind as usize);
+    let column = u8::from(kind);
+    let i = (row as usize) * 3 + (column as usize);
     TRTP[i]
+}
+
+// The same for the number of a kind, FF for a number of none too.
+pub fn trtp(row: u8, kind: u8) -> u8
+    ensures { result ≡ trtp_of row kind }
+{
+    match Kind::try_from(kind) {
+        Ok(kind) => entry(row, kind),
+        Err(_) => ABSENT,
+    }
 }
 
 // Whether a unit of this kind knows the TRTP. Every TRTP of the table has its row as low digit, so it is looked for
@@ -80,9 +83,9 @@ pub fn known_to(kind: u8, byte: u8) -> bool
 fn in_row(row: u8, byte: u8) -> bool
     ensures { result ≡ in_row byte row }
 {
-    (trtp(row, GENERATION_1) == byte)
-        | (trtp(row, GENERATION_2_VERSION_1) == byte)
-        | (trtp(row, GENERATION_2_VERSION_2) == byte)
+    (entry(row, Kind::Generation1) == byte)
+        | (entry(row, Kind::Generation2Version1) == byte)
+        | (entry(row, Kind::Generation2Version2) == byte)
 }
 
 // Whether any kind knows the TRTP. With every row named, the compiler makes one test of bits of the whole table

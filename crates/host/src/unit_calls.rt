@@ -6,6 +6,7 @@ ghost use Rattle.host.specs.Calls.{unit_fresh_number, unit_fresh_state, unit_han
 ghost use Rattle.host.specs.Calls.{unit_step_reply};
 ghost use Rattle.host.specs.Ends.{given};
 
+use catalog::kind::Kind;
 use frame::{Addresses, LAB};
 use octets::Written;
 use octets::refusal::Refusal;
@@ -15,9 +16,7 @@ fn fresh(kind: u8, state: &mut [u8]) -> Result<(), Refusal>
     ensures value { judgement result ≡ unit_fresh_number kind (length state.old) }
     ensures state_after { state.new ≡ unit_fresh_state kind state.old }
 {
-    if kind >= catalog::KINDS {
-        return Err(Refusal::OutOfTurn);
-    }
+    Kind::try_from(kind)?;
     if state.len() < states::pack_unit::SIZE {
         return Err(Refusal::BufferShort);
     }

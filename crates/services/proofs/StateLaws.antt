@@ -60,7 +60,7 @@ sendable-says place k e =
     }
 
 -- possible, from the answer about the phase
-pub possible-is : (u : UnitState) (place : Place) (r : Bool) → r ≡ phase_possible place u.phase
-    → (ltb u.kind 3 && ((leb 1 u.rate && leb u.rate 5) && (leb u.pending 5 && r))) ≡ possible_at place u
+pub possible-is : (u : UnitState) (place : Place) (k r : Bool) → k ≡ ltb u.kind 3 → r ≡ phase_possible place u.phase
+    → (k && ((leb 1 u.rate && leb u.rate 5) && (leb u.pending 5 && r))) ≡ possible_at place u
 unfolding possible_at
-possible-is u place r e = rw e
+possible-is u place k r d e = rw (d, e)

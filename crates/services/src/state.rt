@@ -5,7 +5,8 @@ ghost use Rattle.services.specs.State.{fresh_unit, is_closed, in_session, is_gra
 ghost use Rattle.services.specs.State.{data_length, sendable, phase_possible, possible_at};
 
 use crate::{Phase, UnitState};
-use catalog::{AnswerName, KINDS, NO_ANSWER};
+use catalog::kind::Kind;
+use catalog::{AnswerName, NO_ANSWER};
 use octets::Part;
 use split::SubMessage;
 
@@ -86,7 +87,8 @@ pub fn possible_at(state: UnitState, sent: Option<Part>) -> bool
     let rate = state.rate;
     let pending = state.pending;
     let phase = state.phase;
-    (kind < KINDS) & (((1 <= rate) & (rate <= 5)) & ((pending <= 5) & phase_possible(phase, sent)))
+    Kind::try_from(kind).is_ok()
+        & (((1 <= rate) & (rate <= 5)) & ((pending <= 5) & phase_possible(phase, sent)))
 }
 
 // The name of the answer that is being sent.

@@ -1,5 +1,6 @@
 // Both ends, a frame and its reply at a time. Every second reply of 260 bytes is lost, and the wait for it ends.
-use catalog::{AnswerName, GENERATION_2_VERSION_2};
+use catalog::AnswerName;
+use catalog::kind::Kind;
 use frame::LAB;
 use octets::refusal::Refusal;
 use octets::wire::FRAME_MOST;
@@ -21,7 +22,7 @@ pub(crate) struct Session {
 impl Session {
     pub(crate) fn fresh() -> Session {
         Session {
-            unit: services::state::fresh(GENERATION_2_VERSION_2),
+            unit: services::state::fresh(Kind::Generation2Version2.into()),
             tool: progress::state::fresh(),
             out: [0; FRAME_MOST],
             len: 0,

@@ -1,7 +1,8 @@
 // Addresses (document 02, Req 05): the examples of its reading, at EE and FB, at 00 and 01, and at two equal ones.
 use crate::hex::Hex;
 use crate::{compared, number};
-use catalog::{AnswerName, GENERATION_1};
+use catalog::AnswerName;
+use catalog::kind::Kind;
 use frame::{Addresses, End, LAB};
 use octets::wire::FRAME_MOST;
 use octets::{Part, Step};
@@ -47,7 +48,7 @@ fn fixed(rt: &impl Print) -> io::Result<()> {
 
 // A frame at a closed unit of EE and FB. Refused, the state stays and there is no reply.
 fn heard(rt: &impl Print, what: &str, frame: &[u8]) -> io::Result<()> {
-    let state = services::state::fresh(GENERATION_1);
+    let state = services::state::fresh(Kind::Generation1.into());
     let mut reply = [0; FRAME_MOST];
     let given = unit::call::step(REMOTE, state, &EMPTY, frame, &mut reply);
     let number = number(&given);

@@ -1,7 +1,8 @@
 // Days (document 02, Req 03): seconds at the ends of days, and the examples of its reading.
 use crate::hex::{Few, Hex};
 use crate::number;
-use catalog::{AnswerName, GENERATION_1};
+use catalog::AnswerName;
+use catalog::kind::Kind;
 use frame::LAB;
 use octets::wire::{ANSWER, FRAME_MOST};
 use octets::{Part, Place, Step};
@@ -48,7 +49,7 @@ fn found(rt: &impl Print, store: &[u8], day: u32) -> io::Result<()> {
 // The reply, all its bytes where they are few, and the state that the host keeps.
 fn asked(rt: &impl Print, what: &str, store: &[u8], phase: Phase) -> io::Result<()> {
     let state = UnitState {
-        kind: GENERATION_1,
+        kind: Kind::Generation1.into(),
         rate: 1,
         pending: 0,
         phase,

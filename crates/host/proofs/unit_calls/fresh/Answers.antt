@@ -5,11 +5,11 @@ use Rattle.host.proofs.unit_calls.fresh.Goals as goal
 
 ruleset all = (rules, fresh-kind, fresh-kind-kept, fresh-short, fresh-short-kept, fresh-good, fresh-good-packed)
 
-pub returns-then-kind-ge-KINDS-clause-value : goal.returns-then-kind-ge-KINDS-clause-value
-returns-then-kind-ge-KINDS-clause-value c = search all
+pub returns-in_err-try_from-clause-value : goal.returns-in_err-try_from-clause-value
+returns-in_err-try_from-clause-value c = search all
 
-pub returns-then-kind-ge-KINDS-clause-state_after : goal.returns-then-kind-ge-KINDS-clause-state_after
-returns-then-kind-ge-KINDS-clause-state_after c = search all
+pub returns-in_err-try_from-clause-state_after : goal.returns-in_err-try_from-clause-state_after
+returns-in_err-try_from-clause-state_after c = search all
 
 pub returns-then-state-lt-SIZE-clause-value : goal.returns-then-state-lt-SIZE-clause-value
 returns-then-state-lt-SIZE-clause-value c = search all
