@@ -29,7 +29,7 @@ pub extern "C" fn tacho_checksum(bytes: &[u8]) -> u8
 pub extern "C" fn tacho_frame_length(received: &[u8]) -> usize
     ensures { result ≡ frame_length received.now }
 {
-    frame::front::frame_length(received)
+    frame::front::frame_length(received).unwrap_or(0)
 }
 
 // The number of a frame judged at that end: 0 where it is good, else 1, 2 or 3. Equal addresses are 2 before any other
