@@ -49,30 +49,11 @@ module _ (f : Form) (s : List ℕ) where
   pub checked-start : store_number f s ≡ 0 → stream_start f s ≤ length s
   checked-start z = header-start (past-13 f s 0 z refl).first
 
-  -- all entries, by the count n that the code read
-  pub checked-all : (n : ℕ) → n ≡ answers f s → store_number f s ≡ 0 → entry_start f n ≤ length s
-  checked-all n p z = rw p (checked-start z)
-
   pub whole-start : (r : ℕ) → r ≡ store_number f s → r ≡ 0 → stream_start f s ≤ length s
   whole-start r e z = checked-start (sym e ∙ z)
 
-  module _ (i n : ℕ) (h : i < n) where
-    pub entry-before : entry_start f n ≤ length s → entry_start f i + entry_size f ≤ length s
-    entry-before l = omega (arith, entry-below f i n h)
-
-    -- the entries before it lie there too
-    pub start-in : n ≡ answers f s → stream_start f s ≤ length s → entry_start f i ≤ length s
-    start-in q l = omega (arith, entry-below f i n h, rw (← q) at l)
-
-    module _ (q : n ≡ answers f s) where
-      pub entry_in : stream_start f s ≤ length s → entry_start f i + entry_size f ≤ length s
-      entry_in l = entry-before (rw q l)
-
-      pub checked-entry : store_number f s ≡ 0 → entry_start f i + entry_size f ≤ length s
-      checked-entry z = entry_in (checked-start z)
-
-      pub whole-entry : (r : ℕ) → r ≡ store_number f s → r ≡ 0 → entry_start f i + entry_size f ≤ length s
-      whole-entry r e z = entry_in (whole-start r e z)
+  pub entry_in : (i : ℕ) → i < answers f s → stream_start f s ≤ length s → entry_start f i + entry_size f ≤ length s
+  entry_in i h l = omega (arith, entry-below f i (answers f s) h)
 
 -- a name from its two parts
 module _ (f : Form) (s : List ℕ) (i : ℕ) where

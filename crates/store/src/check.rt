@@ -8,7 +8,7 @@ ghost use Rattle.store.specs.Check.{header_fits, counts_fit, filled_to, place_ri
 ghost use Rattle.store.specs.Check.{fault_at, no_fault, fault_of, count_read, misplaced_at, wrong_at, repeat_at};
 ghost use Rattle.store.specs.Check.{store_fault, store_number};
 
-use crate::layout::HEADER;
+use crate::layout::{Entries, Entry, HEADER};
 use crate::{ANSWERS_MOST, Broken, STREAM_MOST};
 use catalog::AnswerName;
 use octets::refusal::Refusal;
@@ -43,76 +43,32 @@ fn counts_fit(store: &[u8]) -> bool
     crate::layout::stream_length(store) <= STREAM_MOST
 }
 
-// Whether answer `i` begins at `end`, where those before it end, has at least two bytes and ends within the stream, by
-// its entry.
-fn place_right(store: &[u8], i: usize, end: usize) -> bool
-    requires narrow_in_bounds { entry_start narrow i + entry_size narrow ≤ length store.now }
-    requires end_value { (end ≡ filled_to narrow i store.now) × (end ≤ stream_length narrow store.now) }
-    ensures { result ≡ place_right narrow i store.now }
-{
-    let len = crate::layout::entry_length(store, i);
-    if crate::layout::entry_offset(store, i) != end {
-        return false;
-    }
-    if len < 2 {
-        return false;
-    }
-    end + len <= crate::layout::stream_length(store)
-}
-
-// 15: the first entry whose offset or length is wrong; the count of answers where each is right and the stream is
-// longer than they are.
-fn check_entries(store: &[u8]) -> Result<(), Broken>
-    requires { stream_start narrow store.now ≤ length store.now }
-    ensures { fault_of result
-        ≡ unless (places_right narrow store.now)
-        (fault_at store_entry (misplaced_at narrow store.now))
-        no_fault }
-{
-    let n = crate::layout::answers(store);
-    let t = crate::layout::stream_length(store);
-    let mut end = 0;
-    for i in 0..n {
-        if !place_right(store, i, end) {
-            return Err(Broken {
-                refusal: Refusal::StoreEntry,
-                position: i,
-            });
+impl<'a> Entry<'a> {
+    // Whether its answer begins at `end`, where those before it end, has at least two bytes and ends within the stream,
+    // by the entry.
+    fn place_right(self, end: usize) -> bool
+        requires { (end ≡ filled_to narrow self.i self.store.now)
+            × (end ≤ stream_length narrow self.store.now) }
+        ensures { result ≡ place_right narrow self.entry.i self.entry.store.now }
+    {
+        let len = self.length();
+        if self.offset() != end {
+            return false;
         }
-        end += crate::layout::entry_length(store, i);
-    }
-    if end != t {
-        return Err(Broken {
-            refusal: Refusal::StoreEntry,
-            position: n,
-        });
-    }
-    Ok(())
-}
-
-fn answer_right(store: &[u8], i: usize) -> bool
-    requires { entry_start narrow i + entry_size narrow ≤ length store.now }
-    ensures { result ≡ answer_right narrow i store.now }
-{
-    if octets::byte::byte_at(store, crate::layout::answer_start(store, i)) != ANSWER {
-        return false;
-    }
-    catalog::name_stored(crate::layout::name_at(store, i))
-}
-
-// 16: the first answer that does not begin 76 and a listed TREP, or has a day that an entry may not have; the count
-// where there is none.
-fn first_wrong(store: &[u8]) -> usize
-    requires { stream_start narrow store.now ≤ length store.now }
-    ensures { result ≡ wrong_at narrow store.now }
-{
-    let n = crate::layout::answers(store);
-    for i in 0..n {
-        if !answer_right(store, i) {
-            return i;
+        if len < 2 {
+            return false;
         }
+        end + len <= crate::layout::stream_length(self.store)
     }
-    n
+
+    fn answer_right(self) -> bool
+        ensures { result ≡ answer_right narrow self.entry.i self.entry.store.now }
+    {
+        if octets::byte::byte_at(self.store, self.answer_start()) != ANSWER {
+            return false;
+        }
+        catalog::name_stored(self.name())
+    }
 }
 
 // The order of names: by TREP, then by day.
@@ -122,27 +78,72 @@ fn rank(name: AnswerName) -> u64
     (name.trep as u64) * 4294967296 + (name.day as u64)
 }
 
-// 17: the first answer that has the name of an earlier one; the count where there is none. A name above all earlier
-// ones is none of theirs, so only the others are looked for.
-fn first_repeat(store: &[u8]) -> usize
-    requires { stream_start narrow store.now ≤ length store.now }
-    ensures { result ≡ repeat_at narrow store.now }
-{
-    let n = crate::layout::answers(store);
-    let mut above: u64 = 0;
-    for i in 0..n {
-        let name = crate::layout::name_at(store, i);
-        let here = rank(name);
-        if above <= here {
-            above = here + 1;
-        } else {
-            let earlier = crate::layout::first_named(store, i, name);
-            if earlier < i {
+impl<'a> Entries<'a> {
+    // 15: the first entry whose offset or length is wrong; the count of answers where each is right and the stream is
+    // longer than they are.
+    fn check_places(self) -> Result<(), Broken>
+        ensures { fault_of result
+            ≡ unless (places_right narrow self.entry.store.now)
+            (fault_at store_entry (misplaced_at narrow self.entry.store.now))
+            no_fault }
+    {
+        let n = crate::layout::answers(self.store);
+        let t = crate::layout::stream_length(self.store);
+        let mut end = 0;
+        for i in 0..n {
+            let entry = self.at(i);
+            if !entry.place_right(end) {
+                return Err(Broken {
+                    refusal: Refusal::StoreEntry,
+                    position: i,
+                });
+            }
+            end += entry.length();
+        }
+        if end != t {
+            return Err(Broken {
+                refusal: Refusal::StoreEntry,
+                position: n,
+            });
+        }
+        Ok(())
+    }
+
+    // 16: the first answer that does not begin 76 and a listed TREP, or has a day that an entry may not have; the count
+    // where there is none.
+    fn first_wrong(self) -> usize
+        ensures { result ≡ wrong_at narrow self.entry.store.now }
+    {
+        let n = crate::layout::answers(self.store);
+        for i in 0..n {
+            if !self.at(i).answer_right() {
                 return i;
             }
         }
+        n
     }
-    n
+
+    // 17: the first answer that has the name of an earlier one; the count where there is none. A name above all earlier
+    // ones is none of theirs, so only the others are looked for.
+    fn first_repeat(self) -> usize
+        ensures { result ≡ repeat_at narrow self.entry.store.now }
+    {
+        let n = crate::layout::answers(self.store);
+        let mut above: u64 = 0;
+        for i in 0..n {
+            let name = self.at(i).name();
+            let here = rank(name);
+            if above <= here {
+                above = here + 1;
+            } else {
+                let earlier = self.first_named(i, name);
+                if earlier < i {
+                    return i;
+                }
+            }
+        }
+        n
+    }
 }
 
 // What is broken in the store at the front of the buffer, and where.
@@ -162,15 +163,16 @@ pub fn fault(store: &[u8]) -> Result<(), Broken>
             position: count,
         });
     }
-    check_entries(store)?;
-    let wrong = first_wrong(store);
+    let entries = Entries { store };
+    entries.check_places()?;
+    let wrong = entries.first_wrong();
     if wrong < count {
         return Err(Broken {
             refusal: Refusal::StoreAnswer,
             position: wrong,
         });
     }
-    let repeat = first_repeat(store);
+    let repeat = entries.first_repeat();
     if repeat < count {
         return Err(Broken {
             refusal: Refusal::StoreTwice,

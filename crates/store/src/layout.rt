@@ -46,71 +46,97 @@ pub fn stream_start(store: &[u8]) -> usize
     HEADER + ENTRY * answers(store)
 }
 
-// The readers of an entry ask that it lies in the buffer, and so test nothing.
-fn entry_day(store: &[u8], i: usize) -> u32
-    requires { entry_start narrow i + entry_size narrow ≤ length store.now }
-    ensures { result ≡ entry_day narrow i store.now }
-{
-    let at = HEADER + ENTRY * i;
-    fields::big_endian::number_of_four(store[at], store[at + 1], store[at + 2], store[at + 3])
+// An entry that lies in the buffer whole, so that its readers test nothing.
+#[derive(Clone, Copy)]
+pub(crate) struct Entry<'a> {
+    pub(crate) store: &'a [u8],
+    pub(crate) i: usize,
+    ghost inside: { entry_start narrow i + entry_size narrow ≤ length store.now },
 }
 
-pub(crate) fn entry_offset(store: &[u8], i: usize) -> usize
-    requires { entry_start narrow i + entry_size narrow ≤ length store.now }
-    ensures { (result ≡ entry_offset narrow i store.now) × (result < 65536) }
-{
-    let at = HEADER + ENTRY * i + DAY;
-    fields::big_endian::number_of_two(store[at], store[at + 1]) as usize
-}
-
-pub(crate) fn entry_length(store: &[u8], i: usize) -> usize
-    requires { entry_start narrow i + entry_size narrow ≤ length store.now }
-    ensures { (result ≡ entry_length narrow i store.now) × (result < 65536) }
-{
-    let at = HEADER + ENTRY * i + DAY + FIELD;
-    fields::big_endian::number_of_two(store[at], store[at + 1]) as usize
-}
-
-// Where answer `i` begins in the buffer.
-pub(crate) fn answer_start(store: &[u8], i: usize) -> usize
-    requires { entry_start narrow i + entry_size narrow ≤ length store.now }
-    ensures { (result ≡ answer_start narrow i store.now) × (result < 34359803908) }
-{
-    stream_start(store) + entry_offset(store, i)
-}
-
-// The TREP stands second in the answer, the day in its entry.
-pub(crate) fn name_at(store: &[u8], i: usize) -> AnswerName
-    requires { entry_start narrow i + entry_size narrow ≤ length store.now }
-    ensures { result ≡ name_at narrow i store.now }
-{
-    AnswerName {
-        trep: octets::byte::byte_at(store, answer_start(store, i) + 1),
-        day: entry_day(store, i),
+impl<'a> Entry<'a> {
+    fn day(self) -> u32
+        ensures { result ≡ entry_day narrow self.entry.i self.entry.store.now }
+    {
+        let store = self.store;
+        let at = HEADER + ENTRY * self.i;
+        fields::big_endian::number_of_four(store[at], store[at + 1], store[at + 2], store[at + 3])
     }
-}
 
-// Whether answer `i` has this name. Most names differ in the day already, and it stands in the entry: the answer is
-// read only behind it.
-pub(crate) fn has_name(store: &[u8], i: usize, name: AnswerName) -> bool
-    requires { entry_start narrow i + entry_size narrow ≤ length store.now }
-    ensures { result ≡ same_answer (name_at narrow i store.now) name }
-{
-    if entry_day(store, i) != name.day {
-        return false;
+    pub(crate) fn offset(self) -> usize
+        ensures { (result ≡ entry_offset narrow self.entry.i self.entry.store.now) × (result < 65536) }
+    {
+        let store = self.store;
+        let at = HEADER + ENTRY * self.i + DAY;
+        fields::big_endian::number_of_two(store[at], store[at + 1]) as usize
     }
-    catalog::same_answer(name_at(store, i), name)
-}
 
-// Which of the first `count` answers has this name, from 0; `count` where none has.
-pub(crate) fn first_named(store: &[u8], count: usize, name: AnswerName) -> usize
-    requires { entry_start narrow count ≤ length store.now }
-    ensures { result ≡ first_of (λ i. same_answer (name_at narrow i store.now) name) count }
-{
-    for i in 0..count {
-        if has_name(store, i, name) {
-            return i;
+    pub(crate) fn length(self) -> usize
+        ensures { (result ≡ entry_length narrow self.entry.i self.entry.store.now) × (result < 65536) }
+    {
+        let store = self.store;
+        let at = HEADER + ENTRY * self.i + DAY + FIELD;
+        fields::big_endian::number_of_two(store[at], store[at + 1]) as usize
+    }
+
+    // Where its answer begins in the buffer.
+    pub(crate) fn answer_start(self) -> usize
+        ensures { (result ≡ answer_start narrow self.entry.i self.entry.store.now) × (result < 34359803908) }
+    {
+        stream_start(self.store) + self.offset()
+    }
+
+    // The TREP stands second in the answer, the day in its entry.
+    pub(crate) fn name(self) -> AnswerName
+        ensures { result ≡ name_at narrow self.entry.i self.entry.store.now }
+    {
+        AnswerName {
+            trep: octets::byte::byte_at(self.store, self.answer_start() + 1),
+            day: self.day(),
         }
     }
-    count
+
+    // Whether its answer has this name. Most names differ in the day already, and it stands in the entry: the answer is
+    // read only behind it.
+    fn has_name(self, name: AnswerName) -> bool
+        ensures { result ≡ same_answer (name_at narrow self.entry.i self.entry.store.now) name }
+    {
+        if self.day() != name.day {
+            return false;
+        }
+        catalog::same_answer(self.name(), name)
+    }
+}
+
+// The entries of a store that all lie in the buffer whole.
+#[derive(Clone, Copy)]
+pub(crate) struct Entries<'a> {
+    pub(crate) store: &'a [u8],
+    ghost inside: { stream_start narrow store.now ≤ length store.now },
+}
+
+impl<'a> Entries<'a> {
+    // Entry `i`, from 0.
+    pub(crate) fn at(self, i: usize) -> Entry<'a>
+        requires { i < answers narrow self.store.now }
+        ensures { (result.store.now ≡ self.entry.store.now) × (result.i ≡ i) }
+    {
+        Entry {
+            store: self.store,
+            i,
+        }
+    }
+
+    // Which of the first `count` answers has this name, from 0; `count` where none has.
+    pub(crate) fn first_named(self, count: usize, name: AnswerName) -> usize
+        requires { count ≤ answers narrow self.store.now }
+        ensures { result ≡ first_of (λ i. same_answer (name_at narrow i self.entry.store.now) name) count }
+    {
+        for i in 0..count {
+            if self.at(i).has_name(name) {
+                return i;
+            }
+        }
+        count
+    }
 }

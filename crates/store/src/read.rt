@@ -6,6 +6,7 @@ ghost use Rattle.store.specs.Check.{store_number};
 ghost use Rattle.store.specs.Read.{two_places, held_given, lookup_place, lookup_both, lookup_part, stream_place};
 ghost use Rattle.store.specs.Read.{stream_part, count_held, held_answer};
 
+use crate::layout::Entries;
 use crate::{HeldAnswer, TwoParts};
 use catalog::{ABSENT, AnswerName};
 use octets::Part;
@@ -22,13 +23,15 @@ fn find(store: &[u8], name: AnswerName) -> Option<Part>
     }
     let kept = catalog::rounded(name);
     let n = crate::layout::answers(store);
-    let i = crate::layout::first_named(store, n, kept);
+    let entries = Entries { store };
+    let i = entries.first_named(n, kept);
     if n <= i {
         return None;
     }
+    let entry = entries.at(i);
     Some(Part {
-        start: crate::layout::answer_start(store, i),
-        len: crate::layout::entry_length(store, i),
+        start: entry.answer_start(),
+        len: entry.length(),
     })
 }
 
@@ -92,11 +95,12 @@ pub fn held(store: &[u8], k: usize) -> Result<HeldAnswer, Refusal>
     if crate::layout::answers(store) <= k {
         return Err(Refusal::NotHeld);
     }
+    let entry = Entries { store }.at(k);
     Ok(HeldAnswer {
-        name: crate::layout::name_at(store, k),
+        name: entry.name(),
         part: Part {
-            start: crate::layout::answer_start(store, k),
-            len: crate::layout::entry_length(store, k),
+            start: entry.answer_start(),
+            len: entry.length(),
         },
     })
 }

@@ -13,23 +13,17 @@ returns-then-not-header_fits c = search (flags, fault-short)
 pub returns-then-not-counts_fit : goal.returns-then-not-counts_fit
 returns-then-not-counts_fit c = search (flags, fault-bounds)
 
-pub check_entries-requires : goal.check_entries-requires
-check_entries-requires c = search (flags, header-start)
+pub invariant_of-entries : goal.invariant_of-entries
+invariant_of-entries c = record { inside = search (flags, header-start) }
 
-pub returns-in_err-check_entries : goal.returns-in_err-check_entries
-returns-in_err-check_entries c = search (rules, flags, fault-entry, refused-number)
-
-pub first_wrong-wrong-requires : goal.first_wrong-wrong-requires
-first_wrong-wrong-requires c = search (flags, header-start)
+pub returns-in_err-check_places : goal.returns-in_err-check_places
+returns-in_err-check_places c = search (rules, flags, fault-entry, refused-number)
 
 pub returns-then-wrong-count : goal.returns-then-wrong-count
-returns-then-wrong-count c = let e = c.in_ok-check_entries.ensures in search (flags, fault-answer)
-
-pub first_repeat-repeat-requires : goal.first_repeat-repeat-requires
-first_repeat-repeat-requires c = search (flags, header-start)
+returns-then-wrong-count c = search (rules, flags, fault-answer)
 
 pub returns-then-repeat-count : goal.returns-then-repeat-count
-returns-then-repeat-count c = let e = c.in_ok-check_entries.ensures in search (flags, fault-twice)
+returns-then-repeat-count c = search (rules, flags, fault-twice)
 
 pub returns : goal.returns
-returns c = let e = c.in_ok-check_entries.ensures in search (flags, fault-none)
+returns c = search (rules, flags, fault-none)

@@ -1,13 +1,9 @@
 use Rattle.octets.proofs.Tests.{flag-t, flag-f}
 use Rattle.octets.proofs.SearchLaws.{search-start, search-hit, search-miss, search-end, found_at}
-use Rattle.store.proofs.CheckLaws.{entry-before}
 use Rattle.std.proofs.Common.{rules}
-use Rattle.store.proofs.layout.first_named.Goals as goal
+use Rattle.store.proofs.layout.Entries.first_named.Goals as goal
 
-ruleset all = (rules, flag-t, flag-f, entry-before, search-start, search-hit, search-miss, search-end, found_at)
-
-pub has_name-requires : goal.has_name-requires
-has_name-requires c = search all
+ruleset all = (rules, flag-t, flag-f, search-start, search-hit, search-miss, search-end, found_at)
 
 pub returns-then-has_name : goal.returns-then-has_name
 returns-then-has_name c = search all

@@ -1,10 +1,10 @@
--- The last two bytes of the entry.
-use Rattle.store.proofs.CheckLaws.{length-read}
+-- The first four bytes of the entry.
+use Rattle.store.proofs.CheckLaws.{day-read}
 use Rattle.std.proofs.Common.{rules}
 use Rattle.store.specs.Layout.{header_size, entry_size, entries_size}
-use Rattle.store.proofs.layout.entry_length.Goals as goal
+use Rattle.store.proofs.layout.Entry.day.Goals as goal
 
-ruleset all = (rules, length-read)
+ruleset all = (rules, day-read)
 
 pub overflow_mul-at : goal.overflow_mul-at
 unfolding header_size entry_size entries_size
@@ -14,26 +14,34 @@ pub overflow_add-at : goal.overflow_add-at
 unfolding header_size entry_size entries_size
 overflow_add-at c = search all
 
-pub overflow_add-at-2 : goal.overflow_add-at-2
-unfolding header_size entry_size entries_size
-overflow_add-at-2 c = search all
-
-pub overflow_add-at-3 : goal.overflow_add-at-3
-unfolding header_size entry_size entries_size
-overflow_add-at-3 c = search all
-
 pub bounds-store-at : goal.bounds-store-at
 unfolding header_size entry_size entries_size
 bounds-store-at c = search all
 
-pub overflow_add-at-4 : goal.overflow_add-at-4
+pub overflow_add-at-2 : goal.overflow_add-at-2
 unfolding header_size entry_size entries_size
-overflow_add-at-4 c = search all
+overflow_add-at-2 c = search all
 
 pub bounds-store-at-2 : goal.bounds-store-at-2
 unfolding header_size entry_size entries_size
 bounds-store-at-2 c = search all
 
+pub overflow_add-at-3 : goal.overflow_add-at-3
+unfolding header_size entry_size entries_size
+overflow_add-at-3 c = search all
+
+pub bounds-store-at-3 : goal.bounds-store-at-3
+unfolding header_size entry_size entries_size
+bounds-store-at-3 c = search all
+
+pub overflow_add-at-4 : goal.overflow_add-at-4
+unfolding header_size entry_size entries_size
+overflow_add-at-4 c = search all
+
+pub bounds-store-at-4 : goal.bounds-store-at-4
+unfolding header_size entry_size entries_size
+bounds-store-at-4 c = search all
+
 pub returns : goal.returns
 unfolding header_size entry_size entries_size
-returns c = (search all, search rules)
+returns c = search all

@@ -1,7 +1,7 @@
 -- 76, then a name that an entry may have.
 use Rattle.store.proofs.CheckLaws.{answer-other, answer-is}
 use Rattle.std.proofs.Common.{rules}
-use Rattle.store.proofs.check.answer_right.Goals as goal
+use Rattle.store.proofs.layout.Entry.answer_right.Goals as goal
 
 ruleset all = (rules, answer-other, answer-is)
 

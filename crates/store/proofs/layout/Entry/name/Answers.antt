@@ -1,7 +1,7 @@
 -- TREP and day are read at their places.
 use Rattle.store.proofs.CheckLaws.{name-is}
 use Rattle.std.proofs.Common.{rules}
-use Rattle.store.proofs.layout.name_at.Goals as goal
+use Rattle.store.proofs.layout.Entry.name.Goals as goal
 
 ruleset all = (rules, name-is)
 

@@ -2,7 +2,7 @@
 use Rattle.store.proofs.CheckLaws.{offset_read}
 use Rattle.std.proofs.Common.{rules}
 use Rattle.store.specs.Layout.{header_size, entry_size, entries_size}
-use Rattle.store.proofs.layout.entry_offset.Goals as goal
+use Rattle.store.proofs.layout.Entry.offset.Goals as goal
 
 ruleset all = (rules, offset_read)
 

@@ -1,18 +1,12 @@
 use Rattle.octets.proofs.Tests.{flag-nt}
 use Rattle.octets.proofs.SearchLaws.{search-start, search-miss}
 use Rattle.store.specs.Layout.{narrow}
-use Rattle.store.proofs.CheckLaws.{entry_in, filled_none, filled_next, next-within, tested, entry-wrong, entries-end-short, entries-fill}
+use Rattle.store.proofs.CheckLaws.{filled_none, filled_next, next-within, tested, entry-wrong, entries-end-short, entries-fill}
 use Rattle.std.proofs.Common.{rules}
-use Rattle.store.proofs.check.check_entries.Goals as goal
+use Rattle.store.proofs.layout.Entries.check_places.Goals as goal
 
 pub loop-i-init : goal.loop-i-init
 loop-i-init c = (search (filled_none narrow), search rules, search search-start)
-
-pub place_right-requires-clause-narrow_in_bounds : goal.place_right-requires-clause-narrow_in_bounds
-place_right-requires-clause-narrow_in_bounds c = search (rules, entry_in narrow)
-
-pub entry_length-end-requires : goal.entry_length-end-requires
-entry_length-end-requires c = search (rules, entry_in narrow)
 
 pub loop-i-preserved : goal.loop-i-preserved
 loop-i-preserved c = (search (rules, filled_next narrow), search (rules, flag-nt, next-within narrow), search (rules, search-miss, tested))

@@ -1,13 +1,10 @@
 use Rattle.octets.proofs.SearchLaws.{search-start, search-hit, search-miss, search-end, found-by}
-use Rattle.store.proofs.CheckLaws.{entry_in, tested}
+use Rattle.store.proofs.CheckLaws.{tested}
 use Rattle.std.proofs.Common.{rules}
-use Rattle.store.proofs.check.first_wrong.Goals as goal
+use Rattle.store.proofs.layout.Entries.first_wrong.Goals as goal
 
 pub loop-i-init : goal.loop-i-init
 loop-i-init c = search search-start
-
-pub answer_right-requires : goal.answer_right-requires
-answer_right-requires c = search (rules, entry_in)
 
 pub loop-i-preserved : goal.loop-i-preserved
 loop-i-preserved c = search (rules, search-miss, tested)
