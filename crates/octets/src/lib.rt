@@ -1,5 +1,5 @@
 // Bytes: checksum, parts of slices, copying and shifting in lent buffers.
-// Also the house numbers of document 01 and the results that carry them.
+// Also the refusals with the house numbers of document 01, and the results that carry these to a host.
 #![tactic(auto)]
 
 pub mod buffer;
@@ -11,7 +11,8 @@ pub mod wire;
 ghost use Rattle.std.specs.Prelude.{◌≡◌};
 ghost use Rattle.octets.specs.Buffer.{part_at};
 
-// What a call that writes hands back: number 0 and the bytes at the front of the lent buffer, or a refusal and 0.
+// What a host is given of a call that writes: number 0 and how many bytes at the front of the lent buffer, or the number
+// of a refusal and 0.
 #[repr(C)]
 #[derive(Clone, Copy, Debug, PartialEq, Eq, Hash)]
 pub struct Written {
@@ -37,7 +38,8 @@ impl Part {
     }
 }
 
-// Where a part lies in the bytes handed in: number 0 and its place, or a refusal and an empty part.
+// What a host is given of a call that finds a part of the bytes handed in: number 0 and its place, or the number of a
+// refusal and an empty part.
 #[repr(C)]
 #[derive(Clone, Copy, Debug, PartialEq, Eq, Hash)]
 pub struct Place {
@@ -46,15 +48,15 @@ pub struct Place {
     pub len: usize,
 }
 
-// What a call on a state hands back: the next state, and the length of what was written at the front of the lent buffer,
-// 0 for nothing. Refused, the state stays.
+// What a call on a state hands back: the next state, and the length of what was written at the front of the lent
+// buffer, 0 for nothing. Refused, the state stays.
 #[derive(Clone, Copy, Debug, PartialEq, Eq, Hash)]
 pub struct Step<S> {
     pub state: S,
     pub len: usize,
 }
 
-// A count, or a refusal and 0.
+// What a host is given of a call that counts: number 0 and the count, or the number of a refusal and 0.
 #[repr(C)]
 #[derive(Clone, Copy, Debug, PartialEq, Eq, Hash)]
 pub struct Counted {

@@ -1,5 +1,5 @@
 // The view of one array (document 01, Record arrays): a reference to the array's own slice, beside what its header
-// says. The work is done on plain slices and numbers; a function over the view only takes it apart or puts it together.
+// says. The work is done on plain slices and numbers; here a view is only put together or taken apart.
 ghost use Rattle.std.specs.Prelude.{◌≡◌};
 ghost use Rattle.octets.specs.Numbers.{judgement, placed};
 ghost use Rattle.records.specs.Arrays.{record_of};

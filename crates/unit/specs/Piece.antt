@@ -10,8 +10,8 @@ use Rattle.services.specs.declared.Reaction.TheVariants.{Ignored, CommunicationS
 use Rattle.services.specs.declared.Reaction.TheVariants.{RateChanged, UploadGranted, AnswerSent, AnswerStopped}
 use Rattle.services.specs.declared.Reaction.TheVariants.{TransferExited, CommunicationStopped, Negative}
 
--- the number of sub message k of the answer that is this part of the store, by the rules of splitting: 0 where the answer lies
--- in the store, 76 and TREP included, and there is such a sub message
+-- the number of sub message k of the answer that is this part of the store, by the rules of splitting: 0 where the
+-- answer lies in the store, 76 and TREP included, and there is such a sub message
 unfoldable pub piece_at : List ℕ → ℕ → Part → ℕ
 piece_at store k part =
     unless (leb 2 part.len && leb (part.start + part.len) (length store)) not_held
