@@ -13,6 +13,7 @@ use octets::wire::NEGATIVE;
 use services::Reaction;
 use split::SubMessage;
 
+// The bound on `reply` stays a clause: each method of a struct around the lent buffer would take it apart to write.
 fn send(addresses: Addresses, data: &[u8], reply: &mut [u8]) -> usize
     requires nonzero { 0 < length «data».now }
     requires data_len_bound { length «data».now ≤ 255 }
