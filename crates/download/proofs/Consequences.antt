@@ -15,7 +15,6 @@ use Rattle.services.specs.declared.Phase.{Phase}
 use Rattle.services.specs.declared.Phase.TheVariants.{Closed, Started, Session, Granted, Sending}
 use Rattle.services.specs.State.{phase_possible}
 use Rattle.unit.specs.State.{place_sent}
-use Rattle.progress.specs.declared.Outcome.{Outcome}
 use Rattle.progress.specs.declared.Outcome.TheVariants.{NoRoom, Refused}
 use Rattle.line.specs.Line.{tool_end, Event}
 use Rattle.line.specs.Book as books

@@ -12,7 +12,6 @@ use Rattle.frame.specs.declared.Addresses.{Addresses}
 use Rattle.catalog.specs.declared.AnswerName.{AnswerName}
 use Rattle.split.specs.Codes.{sub}
 use Rattle.split.specs.Split.{count_of, sub_frame}
-use Rattle.unit.specs.State.{possible}
 use Rattle.progress.specs.State.{fresh_tool}
 use Rattle.octets.specs.Buffer.{same_bytes}
 use Rattle.services.specs.declared.UnitState.{UnitState}

@@ -15,7 +15,6 @@ use Rattle.frame.specs.Given.{different}
 use Rattle.frame.proofs.GivenLaws.{different-ones}
 use Rattle.split.specs.Split.{count_of}
 use Rattle.progress.specs.declared.Request.TheVariants as requests
-use Rattle.progress.specs.declared.Outcome.{Outcome}
 use Rattle.progress.specs.declared.Outcome.TheVariants.{Waiting, Done, NoAnswer}
 use Rattle.requests.specs.Sent.{frame_sent}
 use Rattle.tool.specs.Call.{begin_state, begin_sent, begin_result}

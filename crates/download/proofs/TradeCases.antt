@@ -27,7 +27,6 @@ use Rattle.services.specs.declared.Phase.TheVariants.{Started, Session, Granted,
 use Rattle.services.specs.declared.Reaction.{Reaction}
 use Rattle.services.specs.declared.Reaction.TheVariants.{SessionOpened, UploadGranted, AnswerSent, Negative}
 use Rattle.services.specs.State.{is_closed, is_granted}
-use Rattle.unit.specs.State.{possible}
 use Rattle.services.specs.Services.{on_session, on_upload, answer_from}
 use Rattle.services.specs.Services.{on_data}
 use Rattle.services.specs.After.{state_after}

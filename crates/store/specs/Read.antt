@@ -9,9 +9,8 @@ use Rattle.octets.specs.declared.Counted.{Counted}
 use Rattle.catalog.specs.Name.{zero_name, rounded, same_answer}
 use Rattle.catalog.specs.declared.AnswerName.{AnswerName}
 use Rattle.octets.specs.Numbers.{number, refused_place, looked_up}
-use Rattle.octets.specs.declared.Part.{Part}
 use Rattle.octets.specs.declared.refusal.Refusal.{Refusal}
-use Rattle.std.specs.Prelude.{Option, Some, None, Result, Ok, Err}
+use Rattle.std.specs.Prelude.{Result, Ok, Err}
 use Rattle.store.specs.declared.HeldAnswer.{HeldAnswer}
 use Rattle.store.specs.declared.TwoParts.{TwoParts}
 use Rattle.store.specs.Layout.{Form, answers, stream_start, stream_length, entry_length, answer_start, name_at}

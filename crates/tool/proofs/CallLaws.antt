@@ -15,7 +15,7 @@ use Rattle.frame.proofs.CheckLaws.{found-data}
 use Rattle.octets.proofs.Tests.{and_left, and_right}
 use Rattle.frame.specs.declared.Addresses.{Addresses}
 use Rattle.frame.specs.declared.End.TheVariants as ends
-use Rattle.frame.specs.Frame.{data_place, data_of}
+use Rattle.frame.specs.Frame.{data_of}
 use Rattle.frame.specs.Given.{different}
 use Rattle.catalog.specs.Name.{name_number}
 use Rattle.catalog.specs.declared.AnswerName.{AnswerName}

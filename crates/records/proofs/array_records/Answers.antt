@@ -1,5 +1,4 @@
 -- The part at the place that `array_at` gives; none where it refuses.
-use Rattle.records.specs.Arrays.{array_records}
 use Rattle.records.proofs.array_records.Goals as goal
 use Rattle.std.proofs.Common.{rules}
 use Rattle.records.proofs.ViewTheorems.{records-part}

@@ -1,6 +1,6 @@
 -- Refused by the place, or header and piece in one frame.
 use Rattle.std.proofs.Common.{refl, rules}
-use Rattle.octets.specs.Numbers.{number, written}
+use Rattle.octets.specs.Numbers.{written}
 use Rattle.octets.proofs.CallLaws.{refused-number}
 use Rattle.split.proofs.SplitLaws.{single-length, split-length, sub-refused, sub-kept, sub-whole, sub-piece}
 use Rattle.split.proofs.write.write_sub_message.Goals as goal
