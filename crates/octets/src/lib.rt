@@ -11,8 +11,8 @@ pub mod wire;
 ghost use Rattle.std.specs.Prelude.{◌≡◌};
 ghost use Rattle.octets.specs.Buffer.{part_at};
 
-// What a host is given of a call that writes: number 0 and how many bytes at the front of the lent buffer, or the number
-// of a refusal and 0.
+// What a host is given of a call that writes: number 0 and how many bytes at the front of the lent buffer, or the
+// number of a refusal and 0.
 #[repr(C)]
 #[derive(Clone, Copy, Debug, PartialEq, Eq, Hash)]
 pub struct Written {

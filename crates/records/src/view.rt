@@ -48,7 +48,8 @@ pub fn view<'a>(body: &'a [u8], array: usize) -> ArrayView<'a>
 impl<'a> ArrayView<'a> {
     // Where a record lies in the view's own slice.
     fn place(self, record: usize) -> Result<Part, Refusal>
-        ensures { placed result ≡ place_in (shown self.entry).records (shown self.entry).size (shown self.entry).count «record» }
+        ensures { placed result ≡
+            place_in (shown self.entry).records (shown self.entry).size (shown self.entry).count «record» }
     {
         crate::record_in(self.records.len(), self.size, self.count, record)
     }

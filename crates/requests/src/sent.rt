@@ -31,7 +31,8 @@ fn write_transfer_request(
     name: AnswerName,
     out: &mut [u8],
 ) -> Result<usize, Refusal>
-    ensures value { written result ≡ send_result (frame_of addresses ends.Unit (transfer_request name)) (length out.old) }
+    ensures value { written result ≡
+        send_result (frame_of addresses ends.Unit (transfer_request name)) (length out.old) }
     ensures out_after { out.new ≡
         send_out (frame_of addresses ends.Unit (transfer_request name)) out.old }
 {
@@ -51,7 +52,8 @@ pub fn write_acknowledgement(
     code: AckCode,
     out: &mut [u8],
 ) -> Result<usize, Refusal>
-    ensures value { written result ≡ send_result (frame_of addresses ends.Unit (acknowledgement code)) (length out.old) }
+    ensures value { written result ≡
+        send_result (frame_of addresses ends.Unit (acknowledgement code)) (length out.old) }
     ensures out_after { out.new ≡
         send_out (frame_of addresses ends.Unit (acknowledgement code)) out.old }
 {
