@@ -130,6 +130,16 @@ module _ (a : Addresses) (end : End) (s : List ℕ) (place : Place) (located : p
   unfolding data_place
   place-number = ap (λ (p : Place). p.number) located
 
+  -- it lies in the frame, so the data is a part of it
+  pub place-within : place.start + place.len ≤ length s
+  unfolding data_place
+  place-within = rw located (go (eqb (judged a end s) 0) refl (is_start s) refl)
+    where
+      go : (b : Bool) → eqb (judged a end s) 0 ≡ b → (t : Bool) → is_start s ≡ t → (data_place a end s).start + (data_place a end s).len ≤ length s
+      go false n t i = rw n (omega arith)
+      go true z true i = let g = good a end s (eqb-true _ _ z) in let five = g.five in rw (z, i) (omega arith)
+      go true z false i = let g = good a end s (eqb-true _ _ z) in let l = count-general s g.count i in rw (z, i) (omega arith)
+
   -- the part that is found there is the data
   pub found-data : (d : List ℕ) → d ≡ part_at place.start place.len s → d ≡ data_of a end s
   unfolding data_of
