@@ -12,6 +12,15 @@ ghost use Rattle.catalog.specs.Name.{first_second, day_named, name_number, day_s
 use kind::Kind;
 use octets::refusal::Refusal;
 
+// The numbers of the kinds of unit, and how many kinds there are.
+pub const GENERATION_1: u8 = Kind::Generation1 as u8;
+
+pub const GENERATION_2_VERSION_1: u8 = Kind::Generation2Version1 as u8;
+
+pub const GENERATION_2_VERSION_2: u8 = Kind::Generation2Version2 as u8;
+
+pub const KINDS: u8 = 3;
+
 // The rows of the table, and the one of activities.
 const TRANSFER_TYPES: u8 = 6;
 

@@ -18,21 +18,21 @@ use Rattle.frame.specs.Front.{frame_length}
 use Rattle.frame.proofs.CheckLaws.{good, count-start, count-general}
 
 module _ (s : List ℕ) where
-  front-none : length s ≡ 0 → 0 ≡ frame_length s
+  pub front-none : length s ≡ 0 → 0 ≡ frame_length s
   unfolding frame_length
   front-none e = rw e
 
   module _ (some : length s ≡ 0 → ⊥) where
-    front-start : get_or s 0 0 ≡ 0x81 → 5 ≡ frame_length s
+    pub front-start : get_or s 0 0 ≡ 0x81 → 5 ≡ frame_length s
     unfolding frame_length
     front-start e = rw (ne_eqb (length s) 0 some, e)
 
     module _ (general : get_or s 0 0 ≡ 0x80) where
-      front-few : length s < 4 → 0 ≡ frame_length s
+      pub front-few : length s < 4 → 0 ≡ frame_length s
       unfolding frame_length
       front-few l = rw (ne_eqb (length s) 0 some, general, lt-leb 4 (length s) l)
 
-      front_long : (n : ℕ) → 4 ≤ length s → n ≡ get_or s 3 0 → n + 5 ≡ frame_length s
+      pub front_long : (n : ℕ) → 4 ≤ length s → n ≡ get_or s 3 0 → n + 5 ≡ frame_length s
       unfolding frame_length
       front_long n l e = rw (ne_eqb (length s) 0 some, general, le-leb 4 (length s) l, e)
 

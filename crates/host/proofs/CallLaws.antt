@@ -77,7 +77,7 @@ module _ (a : Addresses) (b : List ℕ) (u : UnitState) (e : u ≡ unpacked_unit
     unfolding unit_handed
     step-handed w k = rw (← e, ← q) k
 
-    step_kept : (p b' : List ℕ) → p ≡ packed_unit step.state → b' ≡ changed_by step.number p b → b' ≡ unit_kept (unit_step a b store room f) b
+    pub step_kept : (p b' : List ℕ) → p ≡ packed_unit step.state → b' ≡ changed_by step.number p b → b' ≡ unit_kept (unit_step a b store room f) b
     unfolding unit_kept
     step_kept p b' i k = rw (← e, ← q, ← i) k
 
@@ -168,7 +168,7 @@ module _ (step called : ToolStep) (is : step ≡ called) where
   unfolding tool_handed
   tool-handed w k = rw (← is) k
 
-  tool-kept : (p b b' : List ℕ) → p ≡ packed_tool step.state → b' ≡ changed_by step.number p b → b' ≡ tool_kept called b
+  pub tool-kept : (p b b' : List ℕ) → p ≡ packed_tool step.state → b' ≡ changed_by step.number p b → b' ≡ tool_kept called b
   unfolding tool_kept
   tool-kept p b b' i k = rw (← is, ← i) k
 

@@ -1,10 +1,10 @@
--- What lent buffers hold after writes, and the loop that copies, a turn at a time.
-use Rattle.std.proofs.Common.{◌≡◌, ℕ, suc, ◌+◌, ◌-◌, ◌<◌, ◌≤◌, true, eqb, List, [], ◌∷◌, ◌++◌, length, get_or, take, drop, set, sym, refl, ap, ◌∙◌, append_assoc, append-nil, zero-add, add-one, arith, length-append, length-drop, drop_of_length-le, length-take, take_all, drop-drop, take_at, eq-eqb, eqb-true, le-leb}
+-- What lent buffers hold after writes, and the loops that write, a turn at a time.
+use Rattle.std.proofs.Common.{◌≡◌, ℕ, suc, ◌+◌, ◌-◌, ◌<◌, ◌≤◌, true, eqb, List, [], ◌∷◌, ◌++◌, length, get_or, take, drop, set, sym, refl, ap, ◌∙◌, append_assoc, append-nil, suc-add, zero-add, add-one, arith, length-append, length-drop, take-append-drop, drop_of_length-le, length-take, length-take-le, take_all, get_or-take, take-suc, drop-drop, take_at, eq-eqb, eqb-true, le-leb}
+use lib.ListN.{get_or-append}
 use lib.ListN.{get_or-eq_default}
 use lib.Seq.{take-append_seam, drop-append-add, take-length, take-nil, paste}
-use lib.Seq.{paste-suc, sets, sets-eq, slice}
+use lib.Seq.{paste-suc, set_at, sets, sets-eq, slice, slice_empty, slice-cons, append_snoc}
 use borrow.Author.Tests.{lt-leb}
-use Rattle.std.proofs.lemmas.Slice.{between_is}
 use Rattle.octets.specs.Buffer.{part_at, same_bytes, front, put, copied, moved, shifted}
 use Rattle.octets.proofs.Tests.{and_left, and_right}
 
@@ -130,15 +130,39 @@ lent-copy at v o o' h e =
 
 -- Shifting up
 
--- what `copy_within` leaves
-pub shift_done : (b b' : List ℕ) (start end by : ℕ) → start ≤ end → end ≤ length b → by ≤ length b - end
-    → b' ≡ paste b (start + by) (drop start b) (end - start) → b' ≡ shifted start end by b
-unfolding shifted moved
-shift_done b b' start end by s n k e =
-    let t : start + by + (end - start) ≡ end + by = omega arith in
-    let m : take (end - start) (drop start b) ≡ slice start end b = between_is b start end in
-    simp (le-leb start end s, le-leb (end + by) (length b) (omega arith))
-    (rw (t, m) at e ∙ append_assoc (take (start + by) b) (slice start end b) (drop (end + by) b))
+pub shift_none : (start end by : ℕ) (b : List ℕ) → b ≡ moved end end by b
+unfolding moved
+shift_none start end by b = rw (slice_empty, take-append-drop)
+
+moved_more : (b : List ℕ) (i end by : ℕ) → i < end → end + by ≤ length b →
+    set (moved (suc i) end by b) (i + by) (get_or (moved (suc i) end by b) i 0) ≡ moved i end by b
+unfolding moved
+moved_more b i end by h k =
+    let r : List ℕ = slice (suc i) end b ++ drop (end + by) b in
+    let e : take (suc i + by) b ≡ take (i + by) b ++ (get_or b (i + by) 0 ∷ []) = rw suc-add (take-suc b (i + by) 0 (omega arith)) in
+    let v : get_or (take (suc i + by) b ++ r) i 0 ≡ get_or b i 0 =
+    get_or-append (take (suc i + by) b) r 0 i (simp length-take (omega arith)) ∙ get_or-take (suc i + by) b i 0 (omega arith) in
+    ap (λ (n : ℕ). set (take (suc i + by) b ++ r) (i + by) n) v
+    ∙ ap (λ (l : List ℕ). set (l ++ r) (i + by) (get_or b i 0)) e
+    ∙ ap (λ (l : List ℕ). set l (i + by) (get_or b i 0)) (append_snoc (take (i + by) b) (get_or b (i + by) 0) r)
+    ∙ set_at (take (i + by) b) (get_or b (i + by) 0) r (get_or b i 0) (i + by) (length-take-le (i + by) b (omega arith))
+    ∙ ap (λ (l : List ℕ). take (i + by) b ++ (l ++ drop (end + by) b)) (sym (slice-cons i end b 0 h (omega arith)))
+
+-- a turn of the loop, from the back: i is the index before it is lowered
+pub shift-more : (b b' : List ℕ) (start i end by : ℕ) → start < i → i ≤ end → end ≤ length b → by ≤ length b - end → b' ≡ moved i end by b →
+    set b' (i - 1 + by) (get_or b' (i - 1) 0) ≡ moved (i - 1) end by b
+shift-more b b' start i end by l h m k e =
+    let j : ℕ = i - 1 in
+    let t : i ≡ suc j = omega arith in
+    let d : b' ≡ moved (suc j) end by b = rw t at e in
+    ap (λ (s : List ℕ). set s (j + by) (get_or s j 0)) d ∙ moved_more b j end by (omega arith) (omega arith)
+
+pub shift-done : (b b' : List ℕ) (start i end by : ℕ) → start ≤ end → end ≤ length b → by ≤ length b - end → start ≤ i → i ≤ start → b' ≡ moved i end by b
+    → b' ≡ shifted start end by b
+unfolding shifted
+shift-done b b' start i end by s n k p q e =
+    let t : i ≡ start = omega arith in
+    simp (le-leb start end s, le-leb (end + by) (length b) (omega arith)) (rw t at e)
 
 pub shift-refused-order : (b : List ℕ) (start end by : ℕ) → end < start → b ≡ shifted start end by b
 unfolding shifted

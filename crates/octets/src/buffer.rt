@@ -37,7 +37,9 @@ pub fn copy_in(out: &mut [u8], bytes: &[u8])
     }
 }
 
-// Moves the bytes from `start` up to `end` by `by` places towards the back; nothing where they do not fit.
+// Moves the bytes from `start` up to `end` by `by` places towards the back, the last one first; nothing where they do
+// not fit. By a `for` and not by `copy_within`, which is compiled to a call of `memmove`: the library for C asks for no
+// name from outside.
 pub fn shift_up(buffer: &mut [u8], start: usize, end: usize, by: usize)
     ensures { buffer.new ≡ shifted start end by buffer.old }
 {
@@ -51,5 +53,7 @@ pub fn shift_up(buffer: &mut [u8], start: usize, end: usize, by: usize)
     if n - end < by {
         return;
     }
-    buffer.copy_within(start..end, start + by);
+    for i in (start..end).rev() {
+        buffer[i + by] = buffer[i];
+    }
 }

@@ -9,6 +9,7 @@ pub mod sum;
 pub mod wire;
 
 ghost use Rattle.std.specs.Prelude.{◌≡◌};
+ghost use Rattle.octets.specs.Numbers.{refused_place};
 ghost use Rattle.octets.specs.Buffer.{part_at};
 
 // What a host is given of a call that writes: number 0 and how many bytes at the front of the lent buffer, or the
@@ -46,6 +47,17 @@ pub struct Place {
     pub number: u8,
     pub start: usize,
     pub len: usize,
+}
+
+// A refusal, with an empty part.
+pub fn refused_place(number: u8) -> Place
+    ensures { result ≡ refused_place number }
+{
+    Place {
+        number,
+        start: 0,
+        len: 0,
+    }
 }
 
 // What a call on a state hands back: the next state, and the length of what was written at the front of the lent

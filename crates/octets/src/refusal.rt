@@ -97,11 +97,7 @@ impl From<Result<Part, Refusal>> for Place {
                 start: part.start,
                 len: part.len,
             },
-            Err(refusal) => Place {
-                number: refusal.into(),
-                start: 0,
-                len: 0,
-            },
+            Err(refusal) => crate::refused_place(refusal.into()),
         }
     }
 }

@@ -11,9 +11,6 @@ use Rattle.octets.specs.Buffer.{same_bytes}
 use Rattle.fields.specs.BigEndian.{number_of, number_at}
 use Rattle.octets.specs.declared.Place.{Place}
 use Rattle.octets.specs.declared.Part.{Part}
-use Rattle.octets.specs.Numbers.{part_of_place, looked_up}
-use Rattle.std.specs.Prelude.{Option, Some, None}
-use Rattle.std.specs.Option.{unwrap_or}
 use Rattle.octets.proofs.Tests.{flag-nt, flag-nf}
 use Rattle.fields.proofs.NumberLaws.{read-two}
 use Rattle.catalog.specs.Table.{known_to, is_activities}
@@ -24,7 +21,6 @@ use Rattle.split.specs.Codes.{sub, code, next_of, acknowledge_of, repeat_of, sto
 use Rattle.split.specs.declared.SubMessage.{SubMessage}
 use Rattle.split.specs.declared.AckCode.{AckCode}
 use Rattle.services.specs.declared.Phase.{Phase}
-use Rattle.services.specs.declared.Phase.TheVariants.{Sending}
 use Rattle.services.specs.declared.Reaction.{Reaction}
 use Rattle.services.specs.declared.Reaction.TheVariants.{AnswerSent, AnswerStopped, Negative}
 use Rattle.services.specs.State.{is_granted, data_length}
@@ -146,17 +142,6 @@ module _ (name : AnswerName) (last : SubMessage) (part : Part) (n c : ℕ) (meas
 
   pub next-such : (k : SubMessage) → last.0 + 1 ≤ c → k ≡ next_of last → AnswerSent name k part ≡ send_next name last part
   next-such k h e = rw (count-is, le-leb (last.0 + 1) c h, e)
-
--- the part of the answer that is being sent, which a unit in a possible state holds
-module _ (name : AnswerName) (last : SubMessage) (c : AckCode) where
-  looked-part : (sent : Option Part) → unwrap_or sent (record { start = 0; len = 0 }) ≡ part_of_place (looked_up sent)
-  looked-part (Some part) = refl
-  looked-part None = refl
-
-  pub sending-code : (phase : Phase) (sent : Option Part) (part : Part) (r : Reaction) → phase ≡ Sending name last
-      → part ≡ unwrap_or sent (record { start = 0; len = 0 }) → r ≡ on_code name last part c → r ≡ on_sending phase (looked_up sent) c
-  unfolding on_sending
-  sending-code phase sent part r e p q = rw e (rw (p ∙ looked-part sent) at q)
 
 -- the code of an acknowledgement stands in its third and fourth byte
 pub code_read : (phase : Phase) (place : Place) (d : List ℕ) (r : Reaction) (c : ℕ) → length d ≡ 4 → c ≡ number_of (get_or d 2 0 ∷ get_or d 3 0 ∷ [])

@@ -1,20 +1,19 @@
 // Which service the data of a frame asks for.
 ghost use Rattle.std.specs.Prelude.{◌≡◌};
-ghost use Rattle.octets.specs.Numbers.{looked_up};
 ghost use Rattle.services.specs.Services.{on_data};
 
 use crate::{Reaction, UnitState};
-use octets::Part;
+use octets::Place;
 use octets::wire::{
     ACKNOWLEDGE, DIAGNOSTIC_SESSION, LINK_CONTROL, REQUEST_UPLOAD, SERVICE_UNKNOWN,
     STOP_COMMUNICATION, TRANSFER_DATA, TRANSFER_EXIT,
 };
 
-// The service by its SID, in the order of document 01's table. `sent` and `asked` are the answer that is being sent and
-// the one that is asked for, none where it is not held.
+// The service by its SID, in the order of document 01's table. `sent` and `asked` are the places of the answer that is
+// being sent and of the one that is asked for.
 #[tactic(auto, unfolding(crate::specs::Services::on_data))]
-pub fn on_data(state: UnitState, sent: Option<Part>, asked: Option<Part>, data: &[u8]) -> Reaction
-    ensures { result ≡ on_data (looked_up sent) (looked_up asked) state «data».now }
+pub fn on_data(state: UnitState, sent: Place, asked: Place, data: &[u8]) -> Reaction
+    ensures { result ≡ on_data sent asked state «data».now }
 {
     let phase = state.phase;
     let sid = octets::byte::byte_at(data, 0);

@@ -1,5 +1,5 @@
 // The unit's state and its services (document 01, The unit): what each makes of the data of a good frame, and what
-// becomes of the state. Of the store they know the parts of two answers alone.
+// becomes of the state. Of the store they know the places of two answers alone.
 #![tactic(auto)]
 
 pub mod after;

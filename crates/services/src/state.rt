@@ -1,13 +1,13 @@
 // The unit's state: fresh, possible, and what the phases mean.
 ghost use Rattle.std.specs.Prelude.{◌≡◌};
-ghost use Rattle.octets.specs.Numbers.{looked_up};
+ghost use Rattle.octets.specs.Numbers.{part_of_place};
 ghost use Rattle.services.specs.State.{fresh_unit, is_closed, in_session, is_granted, name_sent};
 ghost use Rattle.services.specs.State.{data_length, sendable, phase_possible, possible_at};
 
 use crate::{Phase, UnitState};
 use catalog::kind::Kind;
 use catalog::{AnswerName, NO_ANSWER};
-use octets::Part;
+use octets::{Part, Place};
 use split::SubMessage;
 
 // A unit of this kind that was just switched on.
@@ -43,6 +43,16 @@ impl Phase {
     }
 }
 
+// The part of the store that a place says, whatever its number.
+pub(crate) fn part_at(place: Place) -> Part
+    ensures { result ≡ part_of_place place }
+{
+    Part {
+        start: place.start,
+        len: place.len,
+    }
+}
+
 // The data bytes of an answer that is this part of the store, behind 76 and TREP.
 pub(crate) fn data_length(part: Part) -> usize
     ensures { result ≡ data_length part }
@@ -51,15 +61,15 @@ pub(crate) fn data_length(part: Part) -> usize
     if len < 2 { 0 } else { len - 2 }
 }
 
-// Whether the answer is held and split, and has this sub message.
-fn sendable(sent: Option<Part>, message: SubMessage) -> bool
-    ensures { result ≡ sendable (looked_up sent) message }
+// Whether the answer at this place is held and split, and has this sub message.
+fn sendable(place: Place, message: SubMessage) -> bool
+    ensures { result ≡ sendable place message }
 {
-    let Some(part) = sent else {
-        return false;
-    };
     let k = message.0 as usize;
-    let len = data_length(part);
+    let len = data_length(part_at(place));
+    if place.number != 0 {
+        return false;
+    }
     if !split::pieces::is_split(len) {
         return false;
     }
@@ -70,8 +80,8 @@ fn sendable(sent: Option<Part>, message: SubMessage) -> bool
 }
 
 #[tactic(auto, unfolding(crate::specs::State::phase_possible))]
-fn phase_possible(phase: Phase, sent: Option<Part>) -> bool
-    ensures { result ≡ phase_possible (looked_up sent) phase }
+fn phase_possible(phase: Phase, sent: Place) -> bool
+    ensures { result ≡ phase_possible sent phase }
 {
     match phase {
         Phase::Sending(_, last) => sendable(sent, last),
@@ -79,9 +89,9 @@ fn phase_possible(phase: Phase, sent: Option<Part>) -> bool
     }
 }
 
-// Whether the state is possible, from the answer that is being sent, if it is held.
-pub fn possible_at(state: UnitState, sent: Option<Part>) -> bool
-    ensures { result ≡ possible_at (looked_up sent) state }
+// Whether the state is possible, from the place of the answer that is being sent.
+pub fn possible_at(state: UnitState, sent: Place) -> bool
+    ensures { result ≡ possible_at sent state }
 {
     let kind = state.kind;
     let rate = state.rate;

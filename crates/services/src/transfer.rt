@@ -1,16 +1,15 @@
 // Transfer data (36) and acknowledge (83): the answers of the store.
 ghost use Rattle.std.specs.Prelude.{◌≡◌};
-ghost use Rattle.octets.specs.Numbers.{looked_up};
 ghost use Rattle.services.specs.Services.{request_length, request_name, name_asked, answer_from, on_transfer};
 ghost use Rattle.services.specs.Services.{send_next, on_code, on_sending, on_acknowledge};
 
 use crate::{Phase, Reaction};
 use catalog::{AnswerName, NO_ANSWER};
-use octets::Part;
 use octets::wire::{
     ACKNOWLEDGE, ANSWER, CONDITIONS_WRONG, DATA_NOT_AVAILABLE, LENGTH_WRONG, OUT_OF_RANGE,
     SUB_FUNCTION_UNKNOWN, TRANSFER_DATA,
 };
+use octets::{Part, Place};
 use split::{AckCode, SubMessage};
 
 // How long a request is: activities carry a day.
@@ -30,13 +29,13 @@ fn request_name(data: &[u8]) -> AnswerName
     }
 }
 
-fn answer_from(name: AnswerName, message: SubMessage, held: Option<Part>) -> Reaction
-    ensures { result ≡ answer_from name message (looked_up held) }
+fn answer_from(name: AnswerName, message: SubMessage, place: Place) -> Reaction
+    ensures { result ≡ answer_from name message place }
 {
-    match held {
-        Some(part) => Reaction::AnswerSent(name, message, part),
-        None => Reaction::Negative(TRANSFER_DATA, DATA_NOT_AVAILABLE),
+    if place.number != 0 {
+        return Reaction::Negative(TRANSFER_DATA, DATA_NOT_AVAILABLE);
     }
+    Reaction::AnswerSent(name, message, crate::state::part_at(place))
 }
 
 // The answer that a frame's data asks for.
@@ -50,9 +49,9 @@ pub fn name_asked(data: &[u8]) -> AnswerName
     }
 }
 
-// Transfer data: 36 TRTP (day). `asked` is the answer that it names, if it is held.
-pub(crate) fn on_transfer(kind: u8, phase: Phase, asked: Option<Part>, data: &[u8]) -> Reaction
-    ensures { result ≡ on_transfer kind phase (looked_up asked) «data».now }
+// Transfer data: 36 TRTP (day). `asked` is the place of the answer that it names.
+pub(crate) fn on_transfer(kind: u8, phase: Phase, asked: Place, data: &[u8]) -> Reaction
+    ensures { result ≡ on_transfer kind phase asked «data».now }
 {
     if data.len() < 2 {
         return Reaction::Negative(TRANSFER_DATA, LENGTH_WRONG);
@@ -98,23 +97,20 @@ fn on_code(name: AnswerName, last: SubMessage, sent: Part, code: AckCode) -> Rea
     Reaction::Negative(ACKNOWLEDGE, CONDITIONS_WRONG)
 }
 
-// A unit in a possible state holds the answer that it is sending; beside another state there may be none.
+// A unit in a possible state holds the answer that it is sending.
 #[tactic(auto, unfolding(crate::specs::Services::on_sending))]
-fn on_sending(phase: Phase, sent: Option<Part>, code: AckCode) -> Reaction
-    ensures { result ≡ on_sending phase (looked_up sent) code }
+fn on_sending(phase: Phase, sent: Place, code: AckCode) -> Reaction
+    ensures { result ≡ on_sending phase sent code }
 {
     match phase {
-        Phase::Sending(name, last) => {
-            let part = sent.unwrap_or(Part { start: 0, len: 0 });
-            on_code(name, last, part, code)
-        }
+        Phase::Sending(name, last) => on_code(name, last, crate::state::part_at(sent), code),
         _ => Reaction::Negative(ACKNOWLEDGE, CONDITIONS_WRONG),
     }
 }
 
-// Acknowledge: 83 76 and a code. `sent` is the answer that is being sent, if it is held.
-pub(crate) fn on_acknowledge(phase: Phase, sent: Option<Part>, data: &[u8]) -> Reaction
-    ensures { result ≡ on_acknowledge phase (looked_up sent) «data».now }
+// Acknowledge: 83 76 and a code. `sent` is the place of the answer that is being sent.
+pub(crate) fn on_acknowledge(phase: Phase, sent: Place, data: &[u8]) -> Reaction
+    ensures { result ≡ on_acknowledge phase sent «data».now }
 {
     if data.len() != 4 {
         return Reaction::Negative(ACKNOWLEDGE, LENGTH_WRONG);

@@ -104,7 +104,7 @@ module _ (a : Addresses) (s : List ℕ) (u : UnitState) (b d : List ℕ) (found 
     refused-number : (n ≡ 0 → ⊥) → unit_number a s room u b ≡ n
     refused-number z = sym numbered ∙ rw (ne_eqb n 0 z)
 
-    result-refused : (n ≡ 0 → ⊥) → ◌≡◌ {A = UnitReply} (record { number = n; state = u; len = 0 }) (unit_result a s room u b)
+    pub result-refused : (n ≡ 0 → ⊥) → ◌≡◌ {A = UnitReply} (record { number = n; state = u; len = 0 }) (unit_result a s room u b)
     unfolding unit_result unit_state unit_reply
     result-refused z = rw (refused-number z, ne_eqb n 0 z)
 
@@ -126,7 +126,7 @@ module _ (a : Addresses) (s : List ℕ) (u : UnitState) (b d : List ℕ) (found 
         unfolding reaction_to
         reaction-is = rw (reacts, given, data_is)
 
-        accepted-piece : piece_sent s x ≡ 0
+        pub accepted-piece : piece_sent s x ≡ 0
         accepted-piece =
             rw reaction-is
             (held-piece a s u (reaction_to a s u b) (eqb k 0)
@@ -140,7 +140,7 @@ module _ (a : Addresses) (s : List ℕ) (u : UnitState) (b d : List ℕ) (found 
           unfolding unit_reply
           replied = rw (reaction-is, accepted-number, held-reply a s u (reaction_to a s u b) (eqb k 0))
 
-          result-done : (v : UnitState) (l : ℕ) → v ≡ state_after u x → l ≡ length (reply_to a (reply_data s x))
+          pub result-done : (v : UnitState) (l : ℕ) → v ≡ state_after u x → l ≡ length (reply_to a (reply_data s x))
               → ◌≡◌ {A = UnitReply} (record { number = k; state = v; len = l }) (unit_result a s room u b)
           unfolding unit_result unit_state
           result-done v l e f =
@@ -148,11 +148,11 @@ module _ (a : Addresses) (s : List ℕ) (u : UnitState) (b d : List ℕ) (found 
 
   -- the buffer o after it
   module _ (n : ℕ) (o : List ℕ) (number : n ≡ number_before found.number (possible_at found.first u) (length o)) where
-    out-refused : (n ≡ 0 → ⊥) → o ≡ unit_out a s u b o
+    pub out-refused : (n ≡ 0 → ⊥) → o ≡ unit_out a s u b o
     unfolding unit_out unit_reply front
     out-refused z = rw (refused-number n (length o) number z, ne_eqb n 0 z)
 
-    out-done : (k : ℕ) (x : Reaction) (o' : List ℕ) → n ≡ 0 → x ≡ changed_by k (reaction_at a found.first found.second u b) Ignored
+    pub out-done : (k : ℕ) (x : Reaction) (o' : List ℕ) → n ≡ 0 → x ≡ changed_by k (reaction_at a found.first found.second u b) Ignored
         → d ≡ data_of a ends.Unit b → k ≡ judged a ends.Unit b
         → o' ≡ front (reply_to a (reply_data s x)) o → o' ≡ unit_out a s u b o
     unfolding unit_out

@@ -9,13 +9,19 @@ ghost use Rattle.unit.specs.Call.{stepped, reaction_at, number_before, unit_resu
 use frame::{Addresses, End, WITHOUT_LEN};
 use octets::refusal::Refusal;
 use octets::wire::FRAME_MOST;
-use octets::{Part, Step};
+use octets::{Part, Place, Step};
 use services::{Reaction, UnitState};
 
-// The refusals between the store's and the frame's own, in order. `sent` is the answer that is being sent, if it is
-// held.
-fn check_before(state: UnitState, sent: Option<Part>, reply_len: usize) -> Result<(), Refusal>
-    ensures { judgement result ≡ number_before done (possible_at (looked_up sent) state) reply_len }
+// The place of an answer that the store was asked for: refused by 6 where it is not held.
+fn place_of(held: Option<Part>) -> Place
+    ensures { result ≡ looked_up held }
+{
+    held.ok_or(Refusal::NotHeld).into()
+}
+
+// The refusals between the store's and the frame's own, in order. `sent` is the place of the answer that is being sent.
+fn check_before(state: UnitState, sent: Place, reply_len: usize) -> Result<(), Refusal>
+    ensures { judgement result ≡ number_before done (possible_at sent state) reply_len }
 {
     if !services::state::possible_at(state, sent) {
         return Err(Refusal::OutOfTurn);
@@ -31,14 +37,14 @@ fn check_before(state: UnitState, sent: Option<Part>, reply_len: usize) -> Resul
 fn on_good(
     addresses: Addresses,
     state: UnitState,
-    sent: Option<Part>,
-    asked: Option<Part>,
+    sent: Place,
+    asked: Place,
     frame: &[u8],
     data: &[u8],
 ) -> Reaction
     requires frame_value { judged addresses ends.Unit frame.now ≡ 0 }
     requires data_value { «data».now ≡ data_of addresses ends.Unit frame.now }
-    ensures { result ≡ reaction_at addresses (looked_up sent) (looked_up asked) state frame.now }
+    ensures { result ≡ reaction_at addresses sent asked state frame.now }
 {
     let phase = state.phase;
     if frame[0] == WITHOUT_LEN {
@@ -74,9 +80,11 @@ pub fn step(
         services::state::name_sent(phase),
         services::transfer::name_asked(data),
     )?;
-    check_before(state, held.first, reply.len())?;
+    let sent = place_of(held.first);
+    let asked = place_of(held.second);
+    check_before(state, sent, reply.len())?;
     located?;
-    let reaction = on_good(addresses, state, held.first, held.second, frame, data);
+    let reaction = on_good(addresses, state, sent, asked, frame, data);
     let len = crate::reply::write_reply(addresses, reaction, store, reply);
     let after = services::after::state_after(state, reaction);
     Ok(Step { state: after, len })

@@ -5,8 +5,8 @@ use Rattle.services.proofs.state.sendable.Goals as goal
 
 ruleset all = (rules, sendable-missing, sendable-whole, sendable-zero, sendable-is)
 
-pub returns-in_default : goal.returns-in_default
-returns-in_default c = search all
+pub returns-then-place-ne0 : goal.returns-then-place-ne0
+returns-then-place-ne0 c = search all
 
 pub returns-then-not-is_split : goal.returns-then-not-is_split
 returns-then-not-is_split c = search all

@@ -35,14 +35,14 @@ pub returns-in_err-check_before-clause-value : goal.returns-in_err-check_before-
 returns-in_err-check_before-clause-value c =
     let apart = passed-different _ c.in_ok-differ.ensures in
     let looked = found-by _ _ _ _ c.args.state.phase c.found-data.result.now c.in_ok-held.ensures c.name_sent.ensures c.name_asked.ensures in
-    let before = before-result c.args.addresses _ c.args.state c.args.frame.now c.found-data.result.now _ looked apart c.args.reply.now _ c.in_err-check_before.ensures (refused-number _) in
+    let before = before-result c.args.addresses _ c.args.state c.args.frame.now c.found-data.result.now _ looked apart c.args.reply.now _ (rw c.place_of-sent.ensures at c.in_err-check_before.ensures) (refused-number _) in
     search rules
 
 pub returns-in_err-check_before-clause-reply_after : goal.returns-in_err-check_before-clause-reply_after
 returns-in_err-check_before-clause-reply_after c =
     let apart = passed-different _ c.in_ok-differ.ensures in
     let looked = found-by _ _ _ _ c.args.state.phase c.found-data.result.now c.in_ok-held.ensures c.name_sent.ensures c.name_asked.ensures in
-    before-out c.args.addresses _ c.args.state c.args.frame.now c.found-data.result.now _ looked apart c.args.reply.now _ c.in_err-check_before.ensures (refused-number _)
+    before-out c.args.addresses _ c.args.state c.args.frame.now c.found-data.result.now _ looked apart c.args.reply.now _ (rw c.place_of-sent.ensures at c.in_err-check_before.ensures) (refused-number _)
 
 pub returns-in_err-located-clause-value : goal.returns-in_err-located-clause-value
 returns-in_err-located-clause-value c =
@@ -50,7 +50,7 @@ returns-in_err-located-clause-value c =
     let looked = found-by _ _ _ _ c.args.state.phase c.found-data.result.now c.in_ok-held.ensures c.name_sent.ensures c.name_asked.ensures in
     let data_is = found-data _ ends.Unit _ _ c.locate-located.ensures _ c.found-data.ensures in
     let judging = place-number _ ends.Unit _ _ c.in_err-located.ensures in
-    let silent = frame-result c.args.addresses _ c.args.state c.args.frame.now c.found-data.result.now _ looked apart c.args.reply.now c.in_ok-check_before.ensures data_is _ judging (refused-number _) in
+    let silent = frame-result c.args.addresses _ c.args.state c.args.frame.now c.found-data.result.now _ looked apart c.args.reply.now (rw c.place_of-sent.ensures at c.in_ok-check_before.ensures) data_is _ judging (refused-number _) in
     search rules
 
 pub returns-in_err-located-clause-reply_after : goal.returns-in_err-located-clause-reply_after
@@ -59,7 +59,7 @@ returns-in_err-located-clause-reply_after c =
     let looked = found-by _ _ _ _ c.args.state.phase c.found-data.result.now c.in_ok-held.ensures c.name_sent.ensures c.name_asked.ensures in
     let data_is = found-data _ ends.Unit _ _ c.locate-located.ensures _ c.found-data.ensures in
     let judging = place-number _ ends.Unit _ _ c.in_err-located.ensures in
-    frame-out c.args.addresses _ c.args.state c.args.frame.now c.found-data.result.now _ looked apart c.args.reply.now c.in_ok-check_before.ensures data_is _ judging (refused-number _)
+    frame-out c.args.addresses _ c.args.state c.args.frame.now c.found-data.result.now _ looked apart c.args.reply.now (rw c.place_of-sent.ensures at c.in_ok-check_before.ensures) data_is _ judging (refused-number _)
 
 pub on_good-reaction-requires-clause-frame_value : goal.on_good-reaction-requires-clause-frame_value
 on_good-reaction-requires-clause-frame_value c = sym (place-number _ ends.Unit _ _ c.in_ok-located.ensures)
@@ -73,12 +73,12 @@ write_reply-len-requires-clause-reaction_value c =
     let looked = found-by _ _ _ _ c.args.state.phase c.found-data.result.now c.in_ok-held.ensures c.name_sent.ensures c.name_asked.ensures in
     let data_is = found-data _ ends.Unit _ _ c.locate-located.ensures _ c.found-data.ensures in
     let judging = place-number _ ends.Unit _ _ c.in_ok-located.ensures in
-    done-piece c.args.addresses _ c.args.state c.args.frame.now c.found-data.result.now _ looked apart c.args.reply.now c.in_ok-check_before.ensures data_is judging _ c.on_good-reaction.ensures
+    done-piece c.args.addresses _ c.args.state c.args.frame.now c.found-data.result.now _ looked apart c.args.reply.now (rw c.place_of-sent.ensures at c.in_ok-check_before.ensures) data_is judging _ (rw (c.place_of-sent.ensures, c.place_of-asked.ensures) at c.on_good-reaction.ensures)
 
 pub write_reply-len-requires-clause-frame_most_in_bounds : goal.write_reply-len-requires-clause-frame_most_in_bounds
 write_reply-len-requires-clause-frame_most_in_bounds c =
     let looked = found-by _ _ _ _ c.args.state.phase c.found-data.result.now c.in_ok-held.ensures c.name_sent.ensures c.name_asked.ensures in
-    accepted-room c.args.addresses _ c.args.state c.args.frame.now c.found-data.result.now _ looked _ _ c.in_ok-check_before.ensures refl
+    accepted-room c.args.addresses _ c.args.state c.args.frame.now c.found-data.result.now _ looked _ _ (rw c.place_of-sent.ensures at c.in_ok-check_before.ensures) refl
 
 pub returns-clause-value : goal.returns-clause-value
 returns-clause-value c =
@@ -86,7 +86,7 @@ returns-clause-value c =
     let looked = found-by _ _ _ _ c.args.state.phase c.found-data.result.now c.in_ok-held.ensures c.name_sent.ensures c.name_asked.ensures in
     let data_is = found-data _ ends.Unit _ _ c.locate-located.ensures _ c.found-data.ensures in
     let judging = place-number _ ends.Unit _ _ c.in_ok-located.ensures in
-    done-result c.args.addresses _ c.args.state c.args.frame.now c.found-data.result.now _ looked apart c.args.reply.now c.in_ok-check_before.ensures data_is judging _ c.on_good-reaction.ensures
+    done-result c.args.addresses _ c.args.state c.args.frame.now c.found-data.result.now _ looked apart c.args.reply.now (rw c.place_of-sent.ensures at c.in_ok-check_before.ensures) data_is judging _ (rw (c.place_of-sent.ensures, c.place_of-asked.ensures) at c.on_good-reaction.ensures)
     _ _ c.state_after-after.ensures c.write_reply-len.ensures.value
 
 pub returns-clause-reply_after : goal.returns-clause-reply_after
@@ -95,5 +95,5 @@ returns-clause-reply_after c =
     let looked = found-by _ _ _ _ c.args.state.phase c.found-data.result.now c.in_ok-held.ensures c.name_sent.ensures c.name_asked.ensures in
     let data_is = found-data _ ends.Unit _ _ c.locate-located.ensures _ c.found-data.ensures in
     let judging = place-number _ ends.Unit _ _ c.in_ok-located.ensures in
-    done-out c.args.addresses _ c.args.state c.args.frame.now c.found-data.result.now _ looked apart c.args.reply.now c.in_ok-check_before.ensures data_is judging _ c.on_good-reaction.ensures
+    done-out c.args.addresses _ c.args.state c.args.frame.now c.found-data.result.now _ looked apart c.args.reply.now (rw c.place_of-sent.ensures at c.in_ok-check_before.ensures) data_is judging _ (rw (c.place_of-sent.ensures, c.place_of-asked.ensures) at c.on_good-reaction.ensures)
     _ c.write_reply-len.ensures.reply_after
