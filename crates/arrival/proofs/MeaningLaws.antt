@@ -10,13 +10,12 @@ use Rattle.octets.specs.Buffer.{same_bytes}
 use Rattle.frame.specs.declared.Addresses.{Addresses}
 use Rattle.frame.specs.declared.End.TheVariants as ends
 use Rattle.frame.specs.Frame.{judged, data_place, data_of}
-use Rattle.frame.proofs.CheckLaws.{place-number, found-data}
+use Rattle.frame.proofs.CheckLaws.{place-number}
 use Rattle.split.specs.Join.{received_as}
 use Rattle.split.specs.declared.Received.{Received}
 use Rattle.progress.specs.declared.Request.{Request}
 use Rattle.progress.specs.declared.ToolState.{ToolState}
 use Rattle.std.specs.Prelude.{Result, Ok, Err}
-use Rattle.octets.specs.Buffer.{part_at}
 use Rattle.octets.specs.Numbers.{number, placed}
 use Rattle.octets.specs.declared.Part.{Part}
 use Rattle.octets.specs.declared.refusal.Refusal.{Refusal}
@@ -80,15 +79,12 @@ module _ (room_len : ℕ) (t : ToolState) (d : List ℕ) where
     unfolding data_meaning
     data-other f s = rw (h, f, s)
 
--- A string b that arrives: its data d lies where l says, is x of the answer and adds n bytes
+-- A string b that arrives: l says where its data d lies, which is x of the answer and adds n bytes
 
 module _ (a : Addresses) (room_len : ℕ) (t : ToolState) (b d : List ℕ) (l : Result Part Refusal) (x : Received) (n : ℕ)
     (located : placed l ≡ data_place a ends.Tool b)
-    (read : d ≡ part_at (placed l).start (placed l).len b)
+    (data_is : d ≡ data_of a ends.Tool b)
     (received : x ≡ received_as t.name.trep t.expected.0 d) (adds : n ≡ length (new_bytes t x d)) where
-  data_is : d ≡ data_of a ends.Tool b
-  data_is = found-data a ends.Tool b (placed l) located d read
-
   arrives : (m : Meaning) → m ≡ arrival_meaning a room_len t b
       → ◌≡◌ {A = Incoming} (record { place = placed l; received = x; new = n; meaning = m }) (arrival_of a room_len t b)
   unfolding arrival_of arrival_bytes

@@ -5,6 +5,7 @@ ghost use Rattle.arrival.specs.Meaning.{is_refusal, refusal_meaning, data_meanin
 
 use crate::{Arrival, Meaning};
 use frame::{Addresses, End};
+use octets::Place;
 use octets::wire::{NEGATIVE, RESPONSE_PENDING};
 use progress::ToolState;
 use split::Received;
@@ -99,7 +100,10 @@ pub fn arrival_of(addresses: Addresses, state: ToolState, frame: &[u8], room_len
 {
     let expected = state.expected;
     let located = frame::check::locate(addresses, frame, End::Tool);
-    let data = octets::buffer::found(frame, located);
+    let place = Place::from(located);
+    let start = place.start;
+    let end = start + place.len;
+    let data = &frame[start..end]; // no test: it lies there (`place-within`)
     let received = split::join::receive(data, state.name.trep, expected);
     let new = crate::room::new_length(state, received, data);
     let meaning = match located {

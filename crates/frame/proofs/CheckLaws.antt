@@ -5,9 +5,10 @@ use mathlib.Core.List.{List}
 use mathlib.Core.Path.{◌≡◌, refl, sym, ap, ◌∙◌}
 use native.Mathlib.Omega.{arith}
 use lib.Dec.{leb, ltb, eqb}
-use lib.ListN.{length, get_or, take}
+use lib.ListN.{length, get_or, take, drop}
 use borrow.Author.Tests.{lt-ltb, le-ltb, eq-eqb, ne_eqb, leb-true, eqb-true}
 use Rattle.octets.proofs.CallLaws.{part_of}
+use Rattle.octets.proofs.BufferLaws.{part-whole}
 use Rattle.octets.proofs.OrderLaws.{unless-is, unless-most}
 use Rattle.octets.proofs.Tests.{and-f, and-false, and_right, flag-nt, flag-nf, eq-given, ne-given}
 use Rattle.octets.proofs.CallLaws.{place-refused}
@@ -139,6 +140,10 @@ module _ (a : Addresses) (end : End) (s : List ℕ) (place : Place) (located : p
       go false n t i = rw n (omega arith)
       go true z true i = let g = good a end s (eqb-true _ _ z) in let five = g.five in rw (z, i) (omega arith)
       go true z false i = let g = good a end s (eqb-true _ _ z) in let l = count-general s g.count i in rw (z, i) (omega arith)
+
+  pub place-data : take (place.start + place.len - place.start) (drop place.start s) ≡ data_of a end s
+  unfolding data_of
+  place-data = part-whole s place.start place.len ∙ ap (λ (p : Place). part_at p.start p.len s) located
 
   -- the part that is found there is the data
   pub found-data : (d : List ℕ) → d ≡ part_at place.start place.len s → d ≡ data_of a end s

@@ -15,7 +15,7 @@ use Rattle.frame.proofs.CheckLaws.{found-data}
 use Rattle.octets.proofs.Tests.{and_left, and_right}
 use Rattle.frame.specs.declared.Addresses.{Addresses}
 use Rattle.frame.specs.declared.End.TheVariants as ends
-use Rattle.frame.specs.Frame.{data_of}
+use Rattle.frame.specs.Frame.{data_of, data_place}
 use Rattle.frame.specs.Given.{different}
 use Rattle.catalog.specs.Name.{name_number}
 use Rattle.catalog.specs.declared.AnswerName.{AnswerName}
@@ -148,6 +148,11 @@ module _ (a : Addresses) (t : ToolState) (b : List ℕ) (room_len : ℕ) (x : In
   pub arrival-out : (o o' : List ℕ) → o' ≡ event_out_given a t x.meaning room_len o → o' ≡ arrival_out_given a t b room_len o
   unfolding arrival_of
   arrival-out o o' e = e ∙ ap (λ (y : Incoming). event_out_given a t y.meaning room_len o) is
+
+  -- where its data lies
+  pub arrival-place : x.place ≡ data_place a ends.Tool b
+  unfolding arrival_of
+  arrival-place = ap (λ (y : Incoming). y.place) is
 
   -- the part that the code finds is its data
   pub arrival-data : (d : List ℕ) → d ≡ part_at x.place.start x.place.len b → d ≡ data_of a ends.Tool b

@@ -12,9 +12,9 @@ ghost use Rattle.tool.specs.Call.{wait_result_given, wait_out_given};
 use arrival::Meaning;
 use catalog::AnswerName;
 use frame::Addresses;
-use octets::Step;
 use octets::refusal::Refusal;
 use octets::wire::FRAME_MOST;
+use octets::{Place, Step};
 use progress::{Outcome, Request, ToolState};
 use split::SubMessage;
 
@@ -168,7 +168,10 @@ pub fn arrived(
     let arrival = arrival::event::arrival_of(addresses, state, frame, room.len());
     let meaning = arrival.meaning;
     let received = arrival.received;
-    let data = octets::buffer::found(frame, arrival.data);
+    let place = Place::from(arrival.data);
+    let start = place.start;
+    let end = start + place.len;
+    let data = &frame[start..end]; // no test: it lies there (`place-within`)
     let step = event_step(addresses, state, meaning, arrival.new, room.len(), out)?;
     crate::room::take_in(state, meaning, received, data, room);
     Ok(step)

@@ -74,7 +74,10 @@ pub fn step(
     let phase = state.phase;
     addresses.differ()?;
     let located = frame::check::locate(addresses, frame, End::Unit);
-    let data = octets::buffer::found(frame, located);
+    let place = Place::from(located);
+    let start = place.start;
+    let end = start + place.len;
+    let data = &frame[start..end]; // no test: it lies there (`place-within`)
     let held = store::read::locate_both(
         store,
         services::state::name_sent(phase),
